@@ -1,6 +1,6 @@
-"""Builds the program of a crate: proves the crates that it stands on, several at once where they don't stand on each other, and tells
-on standard error which are being proved and for how long. What an interrupted build has proved is kept. The file out/build.log has
-what was printed, and what each crate took.
+"""Builds the program of a crate: proves the crates that it stands on, several at once where none of them stands on another, and reports
+on standard error which proofs run and for how long. An interrupted build keeps what it has proved. The file out/build.log has the
+output, and the time that each crate took.
 """
 import contextlib
 import fcntl
@@ -38,7 +38,7 @@ def ways(crates, names, seconds):
 
 
 def proving(verb, crate, jobs, *words):
-    """The words of a command of `rt` for a crate, with so many jobs."""
+    """The words of a command of `rt` for a crate, with this number of jobs."""
     return [sys.executable, "-B", f"{TOP}/tools/prove.py", verb, crate, str(jobs), *words]
 
 
@@ -47,7 +47,7 @@ def clock(seconds):
 
 
 class Progress:
-    """Tells how far a build is: on a terminal by one line that is written again, elsewhere by a line a crate."""
+    """Shows how far a build is: on a terminal by one line that is overwritten, elsewhere by a line for each crate."""
 
     def __init__(self, name, count):
         self.name, self.count, self.begun, self.done = name, count, 0, 0
@@ -59,7 +59,7 @@ class Progress:
             self.say(f"proving {crate}, {self.begun} of {self.count}")
 
     def show(self, now):
-        """Tells what is being proved now."""
+        """Shows which proofs run now."""
         if self.is_terminal:
             self.say(f"{self.done} of {self.count} crates proved: proving {', '.join(now)}")
 
@@ -73,8 +73,8 @@ class Progress:
 
 
 class Run:
-    """A command that works for a crate with so many jobs. What it prints stands in a file of its own until it has ended. The more others
-    go before it, the less it takes of the processors."""
+    """A command that works for a crate with this number of jobs. Its output goes to a file of its own until it has ended. The more runs
+    go before it, the lower its priority."""
 
     def __init__(self, crate, jobs, words, behind=0):
         self.crate, self.jobs, self.started, self.said = crate, jobs, time.monotonic(), tempfile.TemporaryFile()
@@ -145,7 +145,7 @@ class Build:
         self.progress.begin(run.crate)
 
     def wait(self):
-        """Waits until one of those that run has ended, and answers whether it went well."""
+        """Waits until one of the runs has ended, and returns whether it succeeded."""
         while True:
             self.progress.show([it.crate for it in self.running])
             for run in self.running:
@@ -158,7 +158,7 @@ class Build:
             time.sleep(0.1)
 
     def prove(self):
-        """Proves them all, and answers whether that went well. Nothing more is begun once a proof has failed."""
+        """Proves all crates, and returns whether that succeeded. Starts nothing more once a proof has failed."""
         try:
             with locked(self.below):
                 while self.left or self.running:
@@ -170,7 +170,7 @@ class Build:
             self.stop()
 
     def make(self, name):
-        """Makes a program of which all below is proved, and answers whether that went well."""
+        """Builds a program whose crates below are all proved, and returns whether that succeeded."""
         try:
             with locked([*self.below, name]):
                 self.begin(Run(name, self.jobs, proving("run", name, self.jobs, "--", *stored_words(name))))
@@ -211,7 +211,7 @@ def told(log):
 
 
 def prove(wanted):
-    """Proves crates and what they stand on. Answers whether that went well, and lines that tell what each took."""
+    """Proves crates and what they stand on. Returns whether that succeeded, and lines that report the time of each."""
     with new_log() as log:
         is_proved = Build(wanted, log, Progress("test", 0)).prove()
         text = told(log)

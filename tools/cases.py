@@ -4,7 +4,7 @@
                                with --program KIND=PATH those of one kind by another program, as --program script=FILE
     ./test preview [NAME..]    those of scripts by the unproved program, compiled once
 
-A case is files of one stem. Its kind is the ending of the first, and tells which program runs it:
+A case is files of one stem. Its kind is the ending of the first, and decides which program runs it:
 
     STEM.script                standard input of queue_sites
     STEM.session               standard input of session_cases
@@ -83,7 +83,7 @@ def all_cases():
 
 
 def failure_of(case, program):
-    """Runs a case. Answers what differs; nothing where it passes."""
+    """Runs a case. Returns what differs; nothing if it passes."""
     wanted, status = case.part("expected"), int(case.part("status") or 0)
     try:
         how = {"input": case.part(case.kind), "capture_output": True, "timeout": SECONDS_OF_A_CASE, "check": False}
@@ -93,7 +93,7 @@ def failure_of(case, program):
     if (ran.stdout, ran.returncode) == (wanted, status):
         return ""
     told = first_difference(wanted, ran.stdout) if ran.stdout != wanted else "it writes what it should"
-    return f"{case.name}: {told}; the status should be {status} and is {ran.returncode}, and it told {ran.stderr!r}"
+    return f"{case.name}: {told}; the status should be {status} and is {ran.returncode}, and its standard error is {ran.stderr!r}"
 
 
 def built(kind):
@@ -105,7 +105,8 @@ def built(kind):
 
 
 def run_all(kinds=tuple(KINDS), names=(), programs=None):
-    """Runs the cases of these kinds and names, by other programs where there are some. Answers lines that tell what was run."""
+    """Runs the cases of these kinds and names, with other programs for the kinds that have one. Returns lines that report
+    what was run."""
     cases = [it for it in all_cases() if it.kind in kinds and is_named(it, names)]
     if not cases:
         raise Failed("cases: there is none of these names")
@@ -193,7 +194,7 @@ def preview(words):
 
 
 def main(words):
-    """Runs the cases that these words tell. Answers the exit status."""
+    """Runs the cases that these words name. Returns the exit status."""
     programs = {}
     if words[:1] == ["--program"]:
         kind, _, path = "".join(words[1:2]).partition("=")

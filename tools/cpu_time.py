@@ -22,14 +22,14 @@ def timed(command, given):
 
 
 def least(times, runs):
-    """Runs programs in turn, all of them so often, so that each meets the machine as the others do. For each pair of a command and
-    the bytes that it is given: the least time that a run took, in seconds, and what it wrote."""
+    """Runs programs in turn, all of them as often as given, so that each meets the same state of the machine. For each pair of
+    a command and its input returns the least time that a run took, in seconds, and its output."""
     rounds = [[timed(command, given) for command, given in runs] for _ in range(times)]
     return [min(of_run) for of_run in zip(*rounds)]
 
 
 def most_memory(command):
-    """How many bytes of memory a run of a program had at most. Of less than Python has itself, it can't tell."""
+    """The most bytes of memory that a run of a program had. It can't be measured below what Python itself has."""
     process = subprocess.Popen(command, stdin=subprocess.DEVNULL, stdout=subprocess.DEVNULL)
     _, status, usage = os.wait4(process.pid, 0)
     process.returncode = os.waitstatus_to_exitcode(status)

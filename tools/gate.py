@@ -1,7 +1,7 @@
-"""Runs the whole gate, `rt ci`, and tells how much processor time each part of it took, crate by crate.
+"""Runs the whole gate, `rt ci`, and reports how much processor time each part of it took, crate by crate.
 
-The time is read five times a second of each process that `rt ci` starts. What ended between two looks, and what `rt` does
-itself, is told as the rest.
+The time of each process that `rt ci` starts is read five times a second. Processes that end between two looks, and `rt` itself, are
+reported as the rest.
 """
 import os
 import subprocess
@@ -35,8 +35,8 @@ def one_job_each():
 
 
 def run():
-    """Runs the gate. Answers its status, its last line, a line that tells its times, the table of its seconds by crate and part, and
-    its seconds in all."""
+    """Runs the gate. Returns its status, its last line, a line with its times, the table of its seconds by crate and part, and its
+    seconds in all."""
     started = time.monotonic()
     pipe = {"stdin": subprocess.DEVNULL, "stdout": subprocess.PIPE, "text": True, "errors": "replace"}
     gate = subprocess.Popen(["rt", "ci"], cwd=TOP, env=os.environ | one_job_each(), **pipe)

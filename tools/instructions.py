@@ -29,14 +29,14 @@ class Counted(NamedTuple):
 
 
 def commands(count, bound):
-    """Commands of each kind at a site of so many members of its own, by lines of a script whose replies are written."""
+    """Commands of each kind at a site of `count` members of its own, by lines of a script whose replies are written."""
     kinds = [("add", []), ("pause", [paused]), ("penalty", [paused, penalized]), ("removal", [paused, penalized, removed])]
     made = lambda lines: lambda: added_and_more(count, members(count, 1), 0, 100, lines)
     return [Counted(f"{kind}_at_{count}", 100, bound, made(lines)) for kind, lines in kinds]
 
 
 def frames(name, times, bound, word, *given):
-    """What a word says is done once with frames, in which so many things are."""
+    """A workload of `bench`, run once on frames that hold `times` things."""
     return Counted(name, times, bound, lambda: of_frames(word, b"".join(given), 1))
 
 

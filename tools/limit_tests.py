@@ -45,7 +45,7 @@ def report(interfaces):
 
 
 def check_script(what, sites, told, queues=("sales",)):
-    """Runs a script of so many sites with these queues: lines, and what each of them must write."""
+    """Runs a script of `sites` sites with these queues: pairs of a line, and what the line must write."""
     script, wanted = ("".join(it).encode() for it in zip(*((f"{line}\n", printed) for line, printed in told)))
     ran = run(BUILT, ["script", str(sites), *queues], script)
     if ran.stdout != wanted or ran.returncode:
@@ -142,12 +142,12 @@ def totals_of_all_sites():
 
 
 def check_frame(what, given, lines):
-    """Reads a frame, which must be told in so many lines, of which the last spells it again; or must have a fault where lines is one."""
+    """Reads a frame: it must give `lines` lines, of which the last spells it again; or have a fault, if `lines` is one."""
     ran = run(FRAMES, [], given.hex().encode() + b"\n")
     told = ran.stdout.decode().split("\n")[:-1]
     wanted = [given.hex()] if isinstance(lines, int) else [lines]
     if told[-1:] != wanted or len(told) != (lines if isinstance(lines, int) else 1) or ran.returncode:
-        raise Failed(f"a frame of {what} is told in {len(told)} lines, of which the last is {''.join(told[-1:])[:80]!r}; status {ran.returncode}")
+        raise Failed(f"a frame of {what} is written as {len(told)} lines, of which the last is {''.join(told[-1:])[:80]!r}; status {ran.returncode}")
 
 
 def full_cell(count):
@@ -222,7 +222,7 @@ def changes_with_little_memory():
     limit = lambda: resource.setrlimit(resource.RLIMIT_AS, (ROOM_OF_CHANGES, ROOM_OF_CHANGES))
     ran = run(BUILT, ["script", "2", "sales"], "".join(f"{it}\n" for it in lines).encode(), before=limit)
     if ran.returncode or ran.stdout.count(b"taken\n") != CHANGES:
-        raise Failed(f"a script of {CHANGES:,} changes in {ROOM_OF_CHANGES >> 20} mebibytes ends with status {ran.returncode} and tells {ran.stderr!r}")
+        raise Failed(f"a script of {CHANGES:,} changes in {ROOM_OF_CHANGES >> 20} mebibytes ends with status {ran.returncode} and {ran.stderr!r} on standard error")
     return f"a script of {CHANGES:,} changes in {ROOM_OF_CHANGES >> 20} mebibytes of addresses"
 
 
@@ -241,7 +241,7 @@ TESTS = {
 
 
 def run_all(programs=tuple(TESTS)):
-    """Builds these programs where that is needed, and runs what there is of them. Answers lines that tell what was run."""
+    """Builds these programs where needed, and runs the checks that there are of them. Returns lines that report what was run."""
     for program in programs:
         if subprocess.run([f"{TOP}/tools/built", program], check=False).returncode:
             raise Failed(f"{program} could not be built")

@@ -16,7 +16,7 @@ import tempfile
 from crates import folder
 from workloads import live, member_between, odd_members
 
-# What a desk calls under its lock, now and before `answer` and `take_decoded` stood in the place of `call` and `take`.
+# What a desk calls under its lock, now and before `answer` and `take_decoded` replaced `call` and `take`.
 UNDER_THE_LOCK = ("answer", "call", "checkpoint", "cut", "take", "take_decoded", "whole")
 JOURNAL = "site_journal::journaled::Journaled"
 
@@ -27,12 +27,12 @@ def take(given):
 
 
 def adds(count):
-    """Adds of 100 members other than the members of so many odd numbers."""
+    """Adds of 100 members that lie between the `count` members of odd numbers."""
     return [f"add sales {member_between(turn, count):05} 7" for turn in range(100)]
 
 
 def takes(count):
-    """100 frames of one live dot each: the next dots of site 1 behind so many, with other members."""
+    """100 frames of one live dot each: the next dots of site 1 after the first `count`, with other members."""
     return [take(live(1, [(count + 1 + turn, member_between(turn, count))])) for turn in range(100)]
 
 

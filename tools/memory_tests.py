@@ -1,10 +1,10 @@
-"""Refuses each allocation in turn of what a test does with its memory, the first, the second and so on, until a run makes no more.
-The test prints `ready` once it has prepared that, asserts itself what was kept or written, and prints a word that tells how it ended.
-What is told here is that no refusal is passed over. A test that starts threads doesn't make as many allocations each time.
+"""Refuses each allocation of a test in turn, the first, the second and so on, until a run makes no more. The test prints `ready` once it
+is prepared, asserts itself what was kept or written, and prints a word for how it ended. This module checks that no refusal is passed
+over. A test that starts threads doesn't make the same number of allocations each time.
 
-The same for programs on cases. Such a program compares what a refusal leaves with a copy from before (of a journal its site and its
-lengths; of a desk and of a raise nothing is compared), writes `memory`, and does the line again: so it must write what the case expects, and that one line more. Or it ends with status 1, or 2 while it reads its words,
-where the refused allocation was its own."""
+The same for programs on cases. Such a program compares the state after a refusal with a copy from before (of a journal only its site and
+its lengths; of a desk and of a raise nothing), writes `memory`, and does the line again: so it must write what the case expects, and
+that one line more. Or it ends with status 1, or 2 while it reads its words, if the refused allocation was its own."""
 import itertools
 import os
 import sys
@@ -60,7 +60,7 @@ TESTS = [
         name="worlds::events_that_lack_memory_change_nothing_and_happen_again",
         what="two worlds",
         whole="at once",
-        refused={"again": "changed nothing, and were told as NoMemory"},
+        refused={"again": "changed nothing, and had the outcome NoMemory"},
     ),
     MemoryTest(
         crate="tests_of_servers",
@@ -123,11 +123,11 @@ def ends_of(test, run_refusing, tests):
             return ends
         if ends or is_ready(ran):
             ends.append(end_of(ran))
-            expect(ends[-1] in test.refused, f"allocation {len(ends)} of {test.what} was refused, and nothing tells so", ran)
+            expect(ends[-1] in test.refused, f"allocation {len(ends)} of {test.what} was refused, and the test does not report it", ran)
 
 
 def run_one(test, run_refusing):
-    """Runs a test with each of its allocations refused. Answers a line that tells what was run."""
+    """Runs a test with each of its allocations refused. Returns a line that reports what was run."""
     tests = f"{folder(test.crate)}/out/{test.crate}_tests"
     if not os.path.exists(tests):
         raise Failed(f"the tests of {test.crate} are not built")
@@ -149,15 +149,15 @@ def has_refusal(ran, wanted):
         lines.remove(b"memory\n")
     written = b"".join(lines)
     if ran.returncode == 0:
-        expect(is_again and written == wanted, "no refusal is told, or more has changed", ran)
+        expect(is_again and written == wanted, "no refusal is reported, or more has changed", ran)
     else:
         expect(ran.returncode in (1, 2) and wanted.startswith(written), "it ends in another way", ran)
     return ran.returncode == 0
 
 
 def run_case(case, program, run_refusing):
-    """Runs a program on a case with each of its allocations refused. Answers for how many it did a line again, and for how many it
-    ended."""
+    """Runs a program on a case with each of its allocations refused. Returns after how many refusals it did a line again, and after how
+    many it ended."""
     whole, allocations = run_refusing(0, program, case.words(), case.part(case.kind))
     wanted = case.part("expected")
     expect(whole.returncode == 0 and whole.stdout == wanted, "with all its memory it writes something else", whole)
@@ -169,7 +169,7 @@ def run_case(case, program, run_refusing):
 
 
 def run_cases(program, run_refusing):
-    """Runs the cases of a program. Answers a line that tells what was run."""
+    """Runs the cases of a program. Returns a line that reports what was run."""
     kind = next(it for it, of in cases.KINDS.items() if of.program == program)
     found = [it for it in cases.all_cases() if it.kind == kind and cases.is_named(it, CASES[program])]
     path = cases.built(kind)
@@ -183,7 +183,7 @@ def run_cases(program, run_refusing):
 
 
 def run_all(crates):
-    """Runs the tests of these crates, and the cases of these programs. Answers lines that tell what was run."""
+    """Runs the tests of these crates, and the cases of these programs. Returns lines that report what was run."""
     with tempfile.TemporaryDirectory() as room:
         run_refusing = refusing(room)
         if not run_refusing:

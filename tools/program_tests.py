@@ -25,8 +25,8 @@ def read(path):
 
 
 def run(program, words, given=b"", out=subprocess.PIPE, place=TOP, more=None, before=None, limit=None):
-    """Runs a program on these bytes, or on an open file, and answers its status, what it wrote and what it told. What is to be done
-    before it starts is done in its process. It may have a limit, in seconds."""
+    """Runs a program on these bytes, or on an open file, and returns its status, its output and its standard error. `before`
+    runs in its process before the program starts. It may have a limit, in seconds."""
     how = {"input": given} if isinstance(given, bytes) else {"stdin": given}
     how |= {"env": {**os.environ, **(more or {})}, "preexec_fn": before, "check": False, "timeout": limit}
     try:
@@ -38,22 +38,22 @@ def run(program, words, given=b"", out=subprocess.PIPE, place=TOP, more=None, be
 def expect(is_so, what, ran):
     if not is_so:
         words = " ".join(map(repr, ran.args))
-        raise Failed(f"{words}: {what}; status {ran.returncode}, it wrote {ran.stdout!r} and told {ran.stderr!r}")
+        raise Failed(f"{words}: {what}; status {ran.returncode}, it wrote {ran.stdout!r}, and {ran.stderr!r} to standard error")
 
 
 def first_difference(wanted, given):
-    """Tells the first line in which what is given differs from what is wanted."""
+    """Returns the first line in which the given text differs from the expected one."""
     lines = [it.splitlines(keepends=True) + [b""] for it in (wanted, given)]
     number, pair = next((at, it) for at, it in enumerate(zip(*lines), 1) if it[0] != it[1])
     return f"line {number} should be {pair[0]!r} and is {pair[1]!r}"
 
 
 def check(program, words, status, printed=b"", told=b"", **how):
-    """Runs a program: it ends with this status, and these bytes stand in what it writes and in what it tells."""
+    """Runs a program: it must end with this status, with these bytes in its output and in its standard error."""
     ran = run(program, words, **how)
     expect(ran.returncode == status, f"the status is not {status}", ran)
     expect(printed in (ran.stdout or b""), f"{printed!r} is not in what it wrote", ran)
-    expect(told in ran.stderr and bool(told) == bool(ran.stderr), f"{told!r} is not in what it told", ran)
+    expect(told in ran.stderr and bool(told) == bool(ran.stderr), f"{told!r} is not in its standard error", ran)
 
 
 def statuses(program):
@@ -66,7 +66,7 @@ def statuses(program):
 
 
 def wrong_words(program):
-    """What is told of wrong words."""
+    """Errors for wrong command lines."""
     bad_list = b"queue_sites: bad queue list\n"
     check(program, [], 2, told=b"Usage: queue_sites")
     check(program, ["dance"], 2, told=b"unrecognized subcommand 'dance'")
@@ -79,7 +79,7 @@ def wrong_words(program):
 
 
 def failures(program, room):
-    """What is told of a script that can't be read, is too long, or whose output can't be written."""
+    """Errors for a script that can't be read, is too long, or whose output can't be written."""
     directory = os.open(room, os.O_RDONLY)
     try:
         check(program, SCRIPT, 1, told=b"queue_sites: read failed\n", given=directory)
@@ -176,8 +176,8 @@ def compiled_refusal(room):
 
 
 def refusing(room):
-    """What runs a program with its allocation of a number refused, none where that is 0, and answers the run and how many
-    allocations it made. Nothing where there is no C compiler."""
+    """Returns a function that runs a program with its allocation of a number refused, none if that is 0, and returns the run and
+    how many allocations it made. Returns nothing if there is no C compiler."""
     library, counted = compiled_refusal(room), f"{room}/allocations"
     if not library:
         return None
@@ -194,7 +194,7 @@ NO_COMPILER = "no allocation was refused: there is no C compiler here"
 
 
 def refused_allocations(room):
-    """Refuses each allocation of the stored run in turn. Answers what was done."""
+    """Refuses each allocation of the stored run in turn. Returns what was done."""
     run_refusing = refusing(room)
     if not run_refusing:
         return NO_COMPILER
@@ -204,13 +204,13 @@ def refused_allocations(room):
     for number in range(1, allocations + 1):
         ran, _ = run_refusing(number, *stored)
         expect(ran.returncode == 1, f"the status is not 1 where allocation {number} is refused", ran)
-        expect(ran.stderr == b"queue_sites: out of memory\n", f"it told another text where allocation {number} is refused", ran)
+        expect(ran.stderr == b"queue_sites: out of memory\n", f"standard error has another text where allocation {number} is refused", ran)
         expect(whole.stdout.startswith(ran.stdout), f"it wrote no front of the output where allocation {number} is refused", ran)
     return f"each of the {allocations} allocations of the stored run refused in turn"
 
 
 def run_all(is_gate_passed=False):
-    """Runs all of it. Answers lines that tell what was run. Once the gate has passed, there is also the program as Rattle's own
+    """Runs all tests. Returns lines that report what was run. Once the gate has passed, they include the program as Rattle's own
     compiler builds it."""
     run("./queue_sites", ["--version"])
     programs = ["./queue_sites", f"{BUILT}.by-rattle"] if is_gate_passed else ["./queue_sites"]

@@ -1,8 +1,8 @@
-"""Runs a command of `rt` for one crate of the repository with so many jobs: prove.py lib|check|run CRATE JOBS [WORD..]
+"""Runs a command of `rt` for one crate of the repository with a number of jobs: prove.py lib|check|run CRATE JOBS [WORD..]
 
-It does what `rt` does, but without the lock that `rt` holds on a crate and all below it: tools/build.py holds it for all that it starts.
-And where `rt` sums up the files of a crate and of all below it, to see whether something has changed, each crate is summed up once, and not
-once for each of the thousands of ways that lead down to it.
+It does what `rt` does, but without the lock that `rt` holds on a crate and all below it: tools/build.py holds that lock for everything
+that it starts. Where `rt` sums up the files of a crate and of all below it, to see whether something has changed, this sums up each
+crate once, and not once for each of the thousands of paths that lead down to it.
 """
 import importlib.machinery
 import importlib.util

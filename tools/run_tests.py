@@ -1,4 +1,4 @@
-"""Runs what must pass, and tells at the end what was run and how long each part of it took.
+"""Runs the tests, and reports at the end what was run and how long each part took.
 
     ./test                     the whole gate, the wrong bodies, the program from the command line, the cases, sites under
                                random workloads, the server, and tests with each allocation refused
@@ -41,7 +41,7 @@ class Parts:
         self.lines, self.has_failed = [], False
 
     def run(self, name, part):
-        """Runs a part, which answers whether it passed and lines to be told."""
+        """Runs a part, which returns whether it passed and lines to report."""
         print(f"test: {name}", flush=True)
         started = time.monotonic()
         try:
@@ -66,7 +66,7 @@ def git(*words):
 
 
 def part_of(run_all):
-    """What runs tests that answer what they have run, as a part."""
+    """A part that runs tests, which return what they have run."""
 
     def part():
         try:
@@ -103,7 +103,7 @@ def run_without_memory(parts, crates):
 
 
 def run_wrong_bodies(parts, names, is_gate_passed=False):
-    """Tries the wrong bodies of these crates. Answers the seconds of each."""
+    """Tries the wrong bodies of these crates. Returns the seconds of each."""
     spent = {}
 
     def part():

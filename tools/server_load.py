@@ -1,7 +1,7 @@
-"""Measures how fast the server of queue_sites answers over loopback, by the clients of tools/load.c: each sends one request, waits for the whole
-reply, and only then sends the next. Prints, for each load, how many requests a second are answered, how many megabytes of replies a second
-come, and within how many microseconds half of the replies come, and 99 of 100. Where Debian's redis-server is installed, the same clients
-measure it in the same run, by `HSET`. Clients and servers share the processors."""
+"""Measures how fast the server of queue_sites answers over loopback, with the clients of tools/load.c: each sends one request, waits for
+the whole reply, and only then sends the next. Prints, for each load, the requests answered in a second, the megabytes of replies in a
+second, and within how many microseconds half of the replies arrive, and 99 of 100. Where Debian's redis-server is installed, the same
+clients measure it in the same run, by `HSET`. Clients and servers share the processors."""
 import contextlib
 import os
 import shutil

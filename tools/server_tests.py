@@ -42,7 +42,7 @@ TOLD = re.compile(rb"queue_sites: (\d+ log lines dropped|site \d+: (no connectio
                   rb"desk down; its last command was not done))|behind site \d+: .+|caught up with site \d+))")
 # A line of the log by which a site falls behind a peer, or catches up with it.
 OF_PEER = re.compile(rb"queue_sites: site (\d+): (behind|caught up with) site (\d+)(?:: .+)?")
-# A line of the log that tells of a client.
+# A line of the log about a client.
 OF_CLIENT = re.compile(rb"queue_sites: site (\d+): client (\S+): (.+)")
 
 
@@ -63,7 +63,7 @@ def is_free(port, address="127.0.0.1"):
 
 
 def free_ports(sites):
-    """The first of so many ports in a row that nobody listens on. They lie below those that the system hands to clients."""
+    """The first of `sites` ports in a row that nobody listens on. They lie below those that the system hands to clients."""
     for _ in range(100):
         first = random.randrange(20_000, 32_000)
         if all(is_free(first + site) for site in range(sites)):
@@ -72,7 +72,8 @@ def free_ports(sites):
 
 
 class Server:
-    """A running server of so many sites. It is ended when it is left. Where its options name a file of the secret, there is no word for it."""
+    """A running server of `sites` sites. It is ended when the context is left. If its options name a file of the secret, the command
+    line has no secret."""
 
     def __init__(self, sites, queues=("sales",), user=USER, secret=SECRET, options=(), more=None, out=None, address="127.0.0.1"):
         self.sites, self.port, self.user, self.secret, self.address = sites, free_ports(sites), user, secret, address
@@ -95,7 +96,7 @@ class Server:
         return b"".join(b"listening %b:%d\n" % (address.encode(), self.port + site) for site in range(self.sites))
 
     def wait_until_it_listens(self):
-        """Waits until it has told that all sites listen. Answers whether it has, which isn't so where it has ended."""
+        """Waits until it has reported that all sites listen. Returns whether it has; it hasn't if it has ended."""
         ends = time.monotonic() + PATIENCE
         while self.printed != self.lines():
             need(time.monotonic() < ends and self.lines().startswith(self.printed), f"the server printed {self.printed!r}")
@@ -107,7 +108,7 @@ class Server:
         return True
 
     def stop(self, by=signal.SIGTERM):
-        """Ends it by a signal, at once, and tells what it said on standard error."""
+        """Ends it by a signal, at once, and returns its standard error."""
         self.process.send_signal(by)
         try:
             _, rest = self.process.communicate(timeout=PATIENCE)
@@ -131,7 +132,7 @@ class Server:
         need(told == b"", f"the server logged {told!r}")
 
     def stop_logged(self, *events):
-        """Ends it where its log tells just these events of clients, in any order: of which site, which client, and what."""
+        """Ends it. Its log must have exactly these events of clients, in any order: the site, the client, and the text."""
         self.read_log(lambda logged: logged.count(b"\n") >= len(events))
         told = self.stop()
         found = [OF_CLIENT.fullmatch(line) for line in told.splitlines()]
@@ -185,13 +186,13 @@ class Client:
         self.socket.close()
 
     def more(self):
-        """Reads once. Answers whether anything came, which isn't so at the end."""
+        """Reads once. Returns whether there were any bytes; there are none at the end."""
         piece = self.socket.recv(65_536)
         self.held += piece
         return piece != b""
 
     def until(self, end):
-        """What comes up to an end, and with it."""
+        """The bytes up to an end, and the end."""
         while end not in self.held:
             need(self.more(), f"the server closed a connection behind {self.held!r}")
         taken, _, self.held = self.held.partition(end)
@@ -211,7 +212,7 @@ class Client:
         self.socket.sendall(given)
 
     def ask(self, action, **fields):
-        """Asks, and answers the reply; of a status all its blocks."""
+        """Sends a request, and returns the reply; of a status all its blocks."""
         lines = [f"Action: {action}", *(f"{name}: {value}" for name, value in fields.items())]
         self.send("".join(f"{it}\r\n" for it in lines).encode() + b"\r\n")
         return self.until(b"Event: QueueStatusComplete\r\n") + self.until(b"\r\n\r\n") if action == "QueueStatus" else self.until(b"\r\n\r\n")
@@ -249,7 +250,7 @@ def until_shown(server, site, text, seconds=SETTLED):
 
 
 def wrong_words():
-    """What is told of wrong words, in their order, and of a port that is taken."""
+    """Errors for wrong command lines, in their order, and for a port that is taken."""
     right = ["1", "24000", USER, SECRET, "sales"]
     changed = lambda at, word: ["serve", *right[:at], word, *right[at + 1:]]
     for text in (b"queue_sites serve", b"[default: 3600]", b"[default: 127.0.0.1]"):
@@ -329,7 +330,7 @@ def has_ipv6():
 
 
 def refuses_at(port, address):
-    """Whether nobody answers at an address and port."""
+    """Whether no server listens at an address and port."""
     try:
         Client(port, address=address).socket.close()
     except ConnectionRefusedError:
@@ -446,7 +447,7 @@ def clients_at_once(sites=8, asks=1_000):
 
 
 def add_own(server, site, number, members):
-    """A client of a site adds so many members that no other client has."""
+    """A client of a site adds a number of members that no other client has."""
     with server.logged_in(site) as it:
         for member in range(members):
             it.succeed("QueueAdd", Queue="sales", Interface=f"SIP/{number}-{member}")
@@ -618,7 +619,7 @@ def replies_before_the_end():
 
 
 def drip(it, given, every, seconds):
-    """A client sends this again and again, so many seconds apart, until its place is lost or for so long."""
+    """A client sends `given` again and again, every `every` seconds, until its place is lost or for `seconds` seconds."""
     ends = time.monotonic() + seconds
     with contextlib.suppress(OSError):
         while time.monotonic() < ends:
@@ -651,7 +652,7 @@ def clients_that_linger():
 
 
 class Model:
-    """What a site with the queue sales answers to some messages, told by rules of its own."""
+    """The replies of a site with the queue sales to some messages, by rules of its own."""
 
     def __init__(self):
         self.members = set()
@@ -735,7 +736,7 @@ def hostile_session(server, seed, stream, model):
 
 
 def hostile_streams(streams=40, times=20):
-    """Streams at random that have a fault, with much behind it, are answered byte for byte up to the fault, again and again."""
+    """Random streams that have a fault, with many bytes after it, get the right replies byte for byte up to the fault, again and again."""
     them = [hostile_stream(seed) for seed in range(streams)]
     with Server(1) as server, concurrent.futures.ThreadPoolExecutor(SLOTS) as threads:
         models = [Model() for _ in range(streams)]
@@ -791,8 +792,8 @@ def hostile_clients():
 
 
 def no_connections():
-    """Where the system has no connection to give that is told once by each thread that wants one, which then waits; and a client is served when
-    there is one again."""
+    """If the system has no connection to give, each thread that waits for one logs that once, and waits; the server serves a client when
+    there is a connection again."""
     with Server(1) as server:
         time.sleep(0.3)
         files = max(map(int, os.listdir(f"/proc/{server.process.pid}/fd"))) + 1
@@ -815,7 +816,7 @@ def no_connections():
 
 
 def fill(server, site, members):
-    """Adds so many members at a site."""
+    """Adds a number of members at a site."""
     with server.logged_in(site) as it:
         for number in range(members):
             it.succeed("QueueAdd", Queue="sales", Interface=f"SIP/{number}")
@@ -833,7 +834,7 @@ def deaf_client(server, site):
 
 
 def next_clients(server, site, number, started):
-    """So many clients of a site whose places are held are greeted once these are given up, and no earlier."""
+    """`number` clients of a site whose places are held are greeted once these are given up, and no earlier."""
     most = SLOT_SECONDS + MORE_SECONDS
     them = [Client(server.port + site, most) for _ in range(number)]
     for it in them:
@@ -861,7 +862,7 @@ def read_slowly(it):
 
 
 def read_too_slowly(it, seconds):
-    """A client that is logged in reads fewer bytes than it must, though it reads some, for so many seconds."""
+    """A client that is logged in reads fewer bytes than it must, though it reads some, for `seconds` seconds."""
     it.socket.setsockopt(socket.SOL_SOCKET, socket.SO_RCVBUF, 65_536)
     it.send(20 * b"Action: QueueStatus\r\n\r\n")
     ends = time.monotonic() + seconds
@@ -911,7 +912,7 @@ def four_silent_clients():
         waited = time.monotonic() - started
         need(SLOT_SECONDS - 1 < waited < SLOT_SECONDS + 1, f"a fifth client waits {waited:.1f} seconds")
         for it in four:
-            need(it.rest() == b"", "a client that is given up is told something")
+            need(it.rest() == b"", "a client that is disconnected gets bytes")
             it.socket.close()
         fifth.succeed("Login", Username=USER, Secret=SECRET)
         fifth.leave()
@@ -921,7 +922,7 @@ def four_silent_clients():
 
 
 def fail_to_log_in(server, clients):
-    """So many clients fail to log in, one after another, five times each."""
+    """`clients` clients fail to log in, one after another, five times each."""
     for _ in range(clients):
         with server.client() as it:
             it.send(TRIES * b"Action: Login\r\n\r\n")
@@ -941,7 +942,7 @@ def deaf_standard_error(clients=300):
         need(time.monotonic() - started < 2, "a server whose log nobody reads serves slowly")
         find = lambda logged: re.search(rb"queue_sites: (\d+) log lines dropped\n", logged)
         dropped = find(server.read_log(find))
-        need(dropped, f"of {clients * SLOTS * (TRIES + 1)} lines none is told to be dropped")
+        need(dropped, f"of {clients * SLOTS * (TRIES + 1)} lines none is logged as dropped")
         lines = server.stop().splitlines()
         number = sum(b": login failed" in it or b": closed after" in it for it in lines) + int(dropped[1])
         waiting = sum(b": waits for a place" in it for it in lines)
@@ -964,7 +965,7 @@ def idle_clients():
             need(passed < 2.4 or is_over, "a silent client keeps its place")
             busy.ask("QueueStatus")
             time.sleep(0.2)
-        need(quiet.rest() == b"", "a silent client is told something")
+        need(quiet.rest() == b"", "a silent client gets bytes")
         job.result()
         slow.send(b": b\r\n\r\n")
         need(b"Message: Missing action in request\r\n" in slow.until(b"\r\n\r\n"), "a client that sends slowly isn't answered")
@@ -1007,8 +1008,8 @@ def signals():
 
 
 def serves_on(server):
-    """A server of two sites, one of whose allocations was refused, serves four clients of each site at once, and what is told the first site comes
-    to the second."""
+    """A server of two sites, one of whose allocations was refused, serves four clients of each site at once, and a change at the first
+    site reaches the second."""
     for _ in range(3):
         for site in range(2):
             with contextlib.suppress(OSError, Failed):
@@ -1040,14 +1041,15 @@ def why_it_ends(server):
 
 
 def run_refused(more):
-    """A run of a server of two sites with one session, with this environment: until it has come to its end, or the server has. Answers the server,
-    and its status, none where it hasn't ended."""
+    """Runs a server of two sites with one session, with this environment, until the session or the server has ended. Returns the server,
+    and its status, none if it hasn't ended."""
     server = Server(2, more=more)
     try:
         if not server.wait_until_it_listens():
             server.process.wait(PATIENCE)
         ends = time.monotonic() + PATIENCE
-        # A client that connects in the moment in which the server ends may never be told so: that the server has ended is looked at behind it.
+        # A client that connects at the moment in which the server ends may never learn that, so whether the server has ended is checked
+        # after it.
         while (why := why_it_ends(server)) and server.process.poll() is None:
             need(time.monotonic() < ends, f"a server with {more} neither ends nor serves a client: {why}")
             time.sleep(0.02)
@@ -1058,8 +1060,8 @@ def run_refused(more):
 
 
 def refused_allocations(room):
-    """With each allocation refused in turn the server ends with status 1 and a text before anybody is served, or serves on, and tells of a session
-    that it has ended."""
+    """With each allocation refused in turn the server ends with status 1 and a text before it serves a client, or serves on, and logs
+    that a session has ended."""
     library = compiled_refusal(room)
     if library is None:
         return NO_COMPILER
@@ -1081,16 +1083,16 @@ def refused_allocations(room):
             continue
         ended += 1
         texts = (b"queue_sites: out of memory\n", b"queue_sites: no thread\n")
-        need(status == 1 and told in texts, f"where allocation {number} is refused the status is {status}, and {told!r} is told")
+        need(status == 1 and told in texts, f"where allocation {number} is refused the status is {status}, and the server logs {told!r}")
         need(server.lines().startswith(server.printed), f"where allocation {number} is refused {server.printed!r} is printed")
     for it in lines:
-        need(TOLD.fullmatch(it), f"where an allocation is refused {it!r} is told")
-    need(any(b"session ended" in it for it in lines), "of no session is told that it ended for want of memory")
+        need(TOLD.fullmatch(it), f"where an allocation is refused the server logs {it!r}")
+    need(any(b"session ended" in it for it in lines), "no session is logged as ended when out of memory")
     return f"each of the {allocations} allocations of a short run refused in turn: {ended} ended it, the others let it serve on"
 
 
 def run_all():
-    """Runs all of it. Answers lines that tell what was run."""
+    """Runs all tests. Returns lines that report what was run."""
     tests = [wrong_words, secrets_of_files, greets_as_it_is_told, listens_where_it_is_told, sessions_of_files, clients_at_once, members_of_their_own,
              sites_that_are_full, fifth_client, places, clients_in_line, verbose_log, failed_logins, replies_before_the_end, clients_that_linger,
              hostile_streams, hostile_clients, no_connections, idle_clients, long_reports, clients_that_hold_on, four_silent_clients, deaf_standard_error, signals]

@@ -16,7 +16,7 @@ USAGE = b"usage: site_runs journals|audit|world SITES STEPS, or site_runs thread
 
 
 def wrong_words():
-    """What is told of wrong words."""
+    """Errors for wrong command lines."""
     for words in ("", "audit", "audit 3", "audit 0 40", "audit 9 40", "audit 3 0", "audit 3 many", "audit 3 1000001", "audit 3 40 1",
                   "dance 3 40", "journals 0 40", "world 3", "threads 3 3", "threads 0 3 20", "threads 3 9 20", "threads 3 3 0",
                   "threads 3 3 20 1"):
@@ -24,7 +24,7 @@ def wrong_words():
 
 
 def refused_allocations(room):
-    """Refuses each allocation of a run in turn. Answers what was done."""
+    """Refuses each allocation of a run in turn. Returns what was done."""
     run_refusing = refusing(room)
     if not run_refusing:
         return NO_COMPILER
@@ -33,13 +33,13 @@ def refused_allocations(room):
     for number in range(1, allocations + 1):
         ran, _ = run_refusing(number, PROGRAM, WORLD)
         expect(ran.returncode == 1, f"the status is not 1 where allocation {number} is refused", ran)
-        expect(ran.stderr == b"site_runs: out of memory\n", f"it told another text where allocation {number} is refused", ran)
+        expect(ran.stderr == b"site_runs: out of memory\n", f"standard error has another text where allocation {number} is refused", ran)
         expect(not ran.stdout, f"it wrote something where allocation {number} is refused", ran)
     return f"each of the {allocations} allocations of three sites, their audit and its world refused in turn"
 
 
 def run_all():
-    """Runs all of it. Answers lines that tell what was run."""
+    """Runs all tests. Returns lines that report what was run."""
     with tempfile.TemporaryDirectory() as room:
         wrong_words()
         check(PROGRAM, JOURNALS, 0, printed=b"120 steps\n")

@@ -1,4 +1,4 @@
-"""What the processes that a command starts work for, and how much processor time they use, as /proc tells it."""
+"""What the processes that a command starts work for, and how much processor time they use, as /proc reports it."""
 import os
 import re
 
@@ -52,7 +52,7 @@ class Watch:
         self.command, self.works, self.seconds = command, {}, {}
 
     def look(self):
-        """Looks once, and answers what the processes that run now work for."""
+        """Looks once, and returns what the processes that run now work for."""
         found, below = processes(), {}
         for pid, (parent, _) in found.items():
             below.setdefault(parent, []).append(pid)

@@ -1,12 +1,12 @@
-"""Times workloads: workloads.py RUNS NAME.. runs all that are named in turn, so often. For each it prints its name, a checksum, how
-often a run does the work, and in how many seconds of a processor, by the least time of the runs; what the work is done on is not
-timed, since a run that does all but the work is taken off. workloads.py memory NAME prints how many megabytes a run of one has at most,
-with what the work is done on, where it is given no bytes.
+"""Times workloads: workloads.py RUNS NAME.. runs all that are named in turn, RUNS times. For each it prints its name, a checksum, how
+often a run does the work, and in how many seconds of a processor, by the least time of the runs. The preparation isn't timed, since
+the time of a run that does everything but the work is subtracted. workloads.py memory NAME prints the most megabytes that a run of a
+workload has, with its preparation, if it has no input.
 
-The workloads of frames are done by `bench` (docs/frames.md has their bytes): frames of live dots, each of a member of its own with a
+The workloads of frames are run by `bench` (docs/frames.md has their bytes): frames of live dots, each of a member of its own with a
 penalty, of dead dots, and of totals. Those of commands and of frames at sites are scripts of `queue_sites` (docs/script.md), and some
-are sessions of `session_cases`; the checksum of these is how many bytes are written. Two have sites of `site_runs`: what the audit of
-their journals takes, and the world in which its events happen; the checksum is how many events there are.
+are sessions of `session_cases`; their checksum is the number of bytes written. Two have sites of `site_runs`: the audit of their
+journals, and the world in which its events happen; their checksum is the number of events.
 """
 import sys
 from typing import Callable, NamedTuple
@@ -14,7 +14,7 @@ from typing import Callable, NamedTuple
 from cpu_time import least, most_memory
 from crates import folder
 
-# How far apart the members of two dots are, of those that go one after the other between so many others.
+# The step between the members of two successive dots whose members lie between many others.
 STRIDE = 9_271
 
 
@@ -86,12 +86,12 @@ def dead_between(count):
 
 
 def totals(first, count):
-    """A frame of every second one of so many totals."""
+    """A frame of every second one of `count` totals."""
     return frame(0, totals=[total(it // 256, it % 256, it + 1) for it in range(first, count, 2)])
 
 
 def member_between(turn, count):
-    """The number of the member for a turn, before, between or behind the members of so many odd numbers: evenly spread over them."""
+    """The number of the member for a turn, before, between or after the members of `count` odd numbers: evenly spread over them."""
     return 2 * (turn * STRIDE % (count + 1))
 
 
@@ -101,14 +101,14 @@ def odd_members(count):
 
 
 def behind(count):
-    """So many live dots of site 1, and 1,000 frames of one live dot each: the next dots of the site, with members that are
-    evenly spread over those that are there."""
+    """`count` live dots of site 1, and 1,000 frames of one live dot each: the next dots of the site, with members that are evenly spread
+    over the existing ones."""
     return odd_members(count) + b"".join(live(1, [(count + 1 + it, member_between(it, count))]) for it in range(1_000))
 
 
 def before(count):
-    """So many live dots of site 1, and 1,000 frames of one live dot each: dots of site 0, each before those that came, with a
-    member before all others."""
+    """`count` live dots of site 1, and 1,000 frames of one live dot each: dots of site 0, each before the earlier ones, with a member
+    before all others."""
     return odd_members(count) + b"".join(live(0, [(1_000 - it, 0)]) for it in range(1_000))
 
 
@@ -117,7 +117,7 @@ def last_word(answer):
 
 
 def of_frames(word, given, times=100):
-    """A workload of `bench`: what a word says is done with frames so often."""
+    """A workload of `bench`: runs the workload of a word on frames, `times` times."""
     program = f"{folder('bench')}/out/bench"
     return Workload(times, Run([program, str(times), word], given), Run([program, "0", word], given), last_word)
 
@@ -156,7 +156,7 @@ def removed(site, of):
 
 
 def members(count, makers):
-    """The lines by which so many members of odd numbers are added and cut, by so many sites."""
+    """The lines by which `makers` sites add and cut `count` members of odd numbers."""
     return [added(makers * it // count, 2 * it + 1) for it in range(count)] + [f"{site} cut" for site in range(makers)]
 
 
@@ -166,15 +166,15 @@ def takes(sites, entries):
 
 
 def added_and_more(count, start, site, often, lines):
-    """At a site that knows so many members as many others are added as is said, and each of these lines is asked of all of them in turn. What is
-    done by the last of the lines."""
+    """At a site that knows `count` members, `often` others are added, and each of these lines is run for all of them in turn. The work
+    is that of the last of the lines."""
     them = [member_between(turn, count) for turn in range(often)]
     *before, last = ([line(site, of) for of in them] for line in (added, *lines))
     return of_script(11, often, start + sum(before, []), last)
 
 
 def commands(count, start, site):
-    """At a site that knows so many members another is added, paused, gets a penalty and is removed, 2,500 times."""
+    """At a site that knows `count` members another is added, paused, gets a penalty and is removed, 2,500 times."""
     turns = (member_between(turn, count) for turn in range(2_500))
     lines = [line(site, of) for of in turns for line in (added, paused, penalized, removed)]
     return of_script(11, 10_000, start, lines)
@@ -191,7 +191,7 @@ def other_commands(count):
 
 
 def taken(count, takers=20):
-    """Each of so many sites that have taken so many members from ten others takes 1,000 frames of one live dot each of one more site."""
+    """Each of `takers` sites that have taken `count` members from ten others takes 1,000 frames of one live dot each of one more site."""
     sites = range(11, 11 + takers)
     start = members(count, 10) + takes(sites, range(10))
     for turn in range(1_000):
@@ -218,29 +218,29 @@ def counted_everywhere():
 
 
 def counted_calls(often):
-    """A site that knows these 16,384 totals counts so many calls more."""
+    """A site that knows these 16,384 totals counts `often` more calls."""
     return of_script(64, often, counted_everywhere(), [f"0 completed {QUEUES[it % 256]}" for it in range(often)], QUEUES)
 
 
 def reports_of_totals(often):
-    """It is asked for the status of all queues so often, which have no members."""
+    """A site that knows these 16,384 totals is asked `often` times for the status of all queues, which have no members."""
     return of_script(64, 256 * often, counted_everywhere(), often * ["0 ami Action: QueueStatus"], QUEUES)
 
 
 def paused_everywhere(sites, queues):
-    """The first of so many sites, each of which has added one interface to so many queues, pauses it in all queues."""
+    """The first of `sites` sites, each of which has added one interface to `queues` queues, pauses it in all queues."""
     start = [f"{site} ami Action: QueueAdd|Queue: {queue}|Interface: {0:05}" for site in range(sites) for queue in QUEUES[:queues]]
     start += [f"{site} cut" for site in range(1, sites)] + takes([0], range(sites - 1))
     return of_script(sites, sites * queues, start, [paused(0, 0)], QUEUES)
 
 
 def lines_of_statuses(often, count):
-    """A site of so many members is asked for its status so often."""
+    """A site of `count` members is asked for its status `often` times."""
     return of_script(1, often, [added(0, it) for it in range(count)], often * ["0 ami Action: QueueStatus"])
 
 
 def statuses(times, count):
-    """A session of a site of so many members asks for the status so often."""
+    """A session of a site of `count` members asks for the status `times` times."""
     command = [f"{folder('session_cases')}/out/session_cases", "1024", "", "", "sales"]
     start = b"".join(b"Action: QueueAdd\r\nQueue: sales\r\nInterface: %b\r\n\r\n" % interface(it) for it in range(count))
     asked = times * b"Action: QueueStatus\r\n\r\n"
@@ -248,7 +248,7 @@ def statuses(times, count):
 
 
 def of_sites(word, part, sites, steps):
-    """A workload of `site_runs`: a word of so many sites that do so many steps each, less another word that does a part of it."""
+    """A workload of `site_runs`: a word of `sites` sites that do `steps` steps each, less another word that does a part of it."""
     program = f"{folder('site_runs')}/out/site_runs"
     runs = (Run([program, it, str(sites), str(steps)], b"") for it in (word, part))
     return Workload(1, *runs, lambda answer: answer.split()[0].decode())

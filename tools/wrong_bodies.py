@@ -241,9 +241,9 @@ class Tries:
             yield room
 
     def put_in(self, edits, room):
-        """Puts wrong bodies into a copy of the crate, and answers which: each that shares neither
-        its function nor a line with one before it, and that can still be applied. One that changes
-        several files may change what other functions stand on, so it is put in alone."""
+        """Puts wrong bodies into a copy of the crate, and returns which: each that shares neither
+        its function nor a line with one before it, and that can still be applied. One that
+        changes several files may change what other functions stand on, so it is put in alone."""
         inside, is_wide = [], lambda edit: len({path for path, _ in edit.lines}) > 1
         for edit in edits:
             if any(edit.function == it.function or edit.lines & it.lines for it in inside):
@@ -260,8 +260,8 @@ class Tries:
         return inside
 
     def check(self, room, functions):
-        """Checks functions of a copy of the crate, and what they call, from nothing. Answers its
-        status and what it says. One that is killed, most likely for memory, runs once more."""
+        """Checks functions of a copy of the crate, and what they call, from nothing. Returns its
+        status and its output. One that is killed, most likely for memory, runs once more."""
         asked = [word for it in functions for word in ("--only", it)]
         words = self.crate.words(["--jobs", "1", *asked], keeps=False)
         for _ in range(2):
@@ -299,7 +299,7 @@ class Tries:
         return self.result()
 
     def judge(self, edits, status, said):
-        """Judges the wrong bodies that one check has read. Answers those to be tried again."""
+        """Judges the wrong bodies that one check has read. Returns those to be tried again."""
         lines = said.rstrip("\n").split("\n")
         paths = {path for it in edits for path, _ in it.lines}
         unread = [it for it in lines if " error[" in it or self.rt.unread(it, paths)]
@@ -477,7 +477,7 @@ def line_of(name, result, is_control):
 
 
 def run(names, is_gate_passed=False, is_control=False):
-    """Tries the wrong bodies of these crates. Answers whether all are refused, lines that report
+    """Tries the wrong bodies of these crates. Returns whether all are refused, lines that report
     it, and the seconds of each crate."""
     os.makedirs(LOGS, exist_ok=True)
     rt, without = loaded(), [it for it in all_crates() if it in names and not files_of(it)]
@@ -516,7 +516,7 @@ def run(names, is_gate_passed=False, is_control=False):
 
 
 def self_test(is_gate_passed=False):
-    """Tries edits that show nothing. Answers whether each fails by its name and for its cause, and
+    """Tries edits that show nothing. Returns whether each fails by its name and for its cause, and
     lines that report it."""
     os.makedirs(LOGS, exist_ok=True)
     rt, report = loaded(), []

@@ -98,7 +98,7 @@ asks_over (m ∷ ms) s more over = asks_by (reaction s m) (is_over (after s m) m
 abbrev pub EachReads : Type 0
 EachReads = (bytes : List ℕ) → (messages : List Fields) × (ending : Ending) × Reads bytes messages ending
 
--- and no others
+-- a stream has one list of messages
 abbrev pub OneReading : Type 0
 OneReading = (bytes : List ℕ) (messages others : List Fields) (ending other : Ending) → Reads bytes messages ending → Reads bytes others other → messages ≡ others
 

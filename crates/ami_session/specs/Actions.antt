@@ -1,5 +1,5 @@
--- The table of the actions that a site answers, which is their definition (the actions and their fields are Asterisk's; which fields are
--- required, how they are read, and the texts are this project's own). An action more is a row more.
+-- The table of the actions that a site answers, which is their definition (the actions and their fields are Asterisk's; which
+-- fields are required, how they are read, and the texts are this project's own). A new action is a new row.
 use Rattle.std.specs.Prelude.{ℕ, ◌≡◌, ◌++◌, Bool, true, false, not, List, [], ◌∷◌, map as each, Option, Some, None, codes, is_none, is_some, unwrap_or, if◌then◌else◌}
 use Rattle.std.specs.List.{find}
 use Rattle.std.specs.Option.{option_map}
@@ -28,8 +28,8 @@ pub record FieldRow : Type 0 where
   pub name : List ℕ
   pub kind : Kind
 
--- a row of the table: an action's name, its required and its optional fields, in order, what a message asks by
--- it where all can be read, and what is said of success, by whether its `Paused` says yes, and of a refusal
+-- a row of the table: an action's name, its required and its optional fields, in order, its ask where all fields can be read, the
+-- text of success, by whether its `Paused` says yes, and the text of a refusal
 pub record ActionRow : Type 0 where
   pub name : List ℕ
   pub required : List FieldRow
@@ -146,7 +146,7 @@ queue_status = record {
   refusal = refusal_text;
 }
 
--- the row of the table that an action has
+-- the row of an action in the table
 abbrev pub row_of : Action → ActionRow
 row_of QueueAdd = queue_add
 row_of QueueRemove = queue_remove
@@ -188,8 +188,7 @@ absent_in row m = absent_of (each (λ f. f.name) row.required) m
 abbrev pub unread_in : ActionRow → Fields → Option (List ℕ)
 unread_in row m = option_map (λ f. f.name) (find (λ field. is_unread field.kind (value_of field.name m)) (row.required ++ row.optional))
 
--- message `m` asks `ask` by the row `row` of an action: each field that it has can be read, and
--- this is what the row asks
+-- message `m` asks `ask` by the row `row` of an action: each field that it has can be read, and the row gives this ask
 pub record AsksBy (row : ActionRow) (m : Fields) (ask : Ask) : Type 0 where
   pub readable : unread_in row m ≡ None
   pub asked : ask ≡ row.ask m

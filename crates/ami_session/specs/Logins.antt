@@ -1,4 +1,4 @@
--- Who may log in, as a session keeps it.
+-- The login of a session.
 use Rattle.std.specs.Prelude.{Option}
 use Rattle.std.specs.Option.{option_map}
 use Rattle.ami_session.specs.declared.session.Credentials.{Credentials}

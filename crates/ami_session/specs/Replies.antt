@@ -4,11 +4,11 @@ use Rattle.ami_text.specs.WrittenLines.{field, action_id_line}
 use Rattle.replica.specs.declared.refusal.Refusal.{Refusal}
 use Rattle.replica.specs.declared.refusal.Refusal.TheVariants.{NoSuchQueue, AlreadyThere, NotThere, MembersFull, Exhausted, TotalFull, Memory}
 
--- a reply: how it went, the ActionID of the request, what it says, and an empty line
+-- a reply: its `Response`, the ActionID of the request, its message, and an empty line
 abbrev pub reply : List ℕ → List ℕ → List ℕ → List ℕ
 reply response id message = field (codes "Response") response ++ action_id_line id ++ field (codes "Message") message ++ codes "\r\n"
 
--- what a reply says of a refusal of a command
+-- the error text of a refused command
 abbrev pub refusal_text : Refusal → List ℕ
 refusal_text NoSuchQueue = codes "No such queue"
 refusal_text AlreadyThere = codes "Unable to add interface: Already there"
@@ -18,8 +18,7 @@ refusal_text Exhausted = codes "Unable to change members: Numbers used up"
 refusal_text TotalFull = codes "Total full"
 refusal_text Memory = codes "Out of memory"
 
--- what a reply to `QueueRemove` says of a refusal: what all replies say, but for a member that
--- isn't there
+-- the error text of a refused `QueueRemove`: that of every command, except for a member that isn't there
 abbrev pub removal_refusal_text : Refusal → List ℕ
 removal_refusal_text NotThere = codes "Unable to remove interface: Not there"
 removal_refusal_text refusal = refusal_text refusal

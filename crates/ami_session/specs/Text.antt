@@ -1,5 +1,5 @@
--- The text of a whole session: what it writes at messages, one after another, and at the answers to what it asks of the site. (A
--- Manager session begins with a line that greets; its own words are this project's.)
+-- The text of a whole session: what it writes for its messages, in order, and for the answers to its asks. (A Manager session
+-- begins with a line that greets; its own words are this project's.)
 use Rattle.std.specs.Prelude.{ℕ, ◌≡◌, ◌⊎◌, ◌||◌, Bool, true, false, List, [], ◌∷◌, ◌++◌, codes}
 use Rattle.ami_text.specs.Stream.{Gives, IsRest}
 use Rattle.status_report.specs.declared.asks.Answer.{Answer}
@@ -8,7 +8,7 @@ use Rattle.ami_session.specs.Checks.{SessionState, Reaction, Replies, Asks, Ends
 use Rattle.ami_session.specs.FieldValues.{Fields}
 use Rattle.ami_session.specs.Checks.{answer_reply}
 
--- the line that greets a client where a session has been given no other
+-- the default greeting
 abbrev pub own_greeting : List ℕ
 own_greeting = codes "Queue Sites Call Manager/1.0.0"
 
@@ -16,31 +16,30 @@ own_greeting = codes "Queue Sites Call Manager/1.0.0"
 abbrev pub greeting : SessionState → List ℕ
 greeting s = s.greeting ++ codes "\r\n"
 
--- what a session writes upon a reaction, and then by `rest`; an ask takes the first of the answers,
--- and without one nothing more is written
+-- what a session writes for a reaction, and then by `rest`; an ask takes the first of the answers, and without one nothing more is
+-- written
 abbrev pub text_upon : Reaction → (List Answer → List ℕ) → List Answer → List ℕ
 text_upon (Replies bytes) rest answers = bytes ++ rest answers
 text_upon (Ends bytes) rest answers = bytes
 text_upon (Asks ask waiting) rest [] = []
 text_upon (Asks ask waiting) rest (answer ∷ answers) = answer_reply waiting answer ++ rest answers
 
--- the replies of session `s` to messages, upon these answers of the site, up to the first Logoff or
--- the end
+-- the replies of session `s` to messages, with these answers of the site, up to the first Logoff or the end
 abbrev pub replies : SessionState → List Fields → List Answer → List ℕ
 replies s [] answers = []
 replies s (m ∷ ms) answers = text_upon (reaction s m) (replies (after s m) ms) answers
 
--- the text of session `s`: its greeting, and its replies to the messages `ms` upon the answers `answers`
+-- the text of session `s`: its greeting, and its replies to the messages `ms` with the answers `answers`
 abbrev pub session_text : SessionState → List Fields → List Answer → List ℕ
 session_text s ms answers = greeting s ++ replies s ms answers
 
--- what the site is asked upon a reaction, and then `more`; nothing more after one that ends the session
+-- the asks of a reaction, and then `more`; nothing more after one that ends the session
 abbrev pub asks_upon : Reaction → List Ask → List Ask
 asks_upon (Replies bytes) more = more
 asks_upon (Ends bytes) more = []
 asks_upon (Asks ask waiting) more = ask ∷ more
 
--- all that session `s` asks the site at messages, in order
+-- the asks of session `s` for messages, in order
 abbrev pub asks : SessionState → List Fields → List Ask
 asks s [] = []
 asks s (m ∷ ms) = asks_upon (reaction s m) (asks (after s m) ms)
@@ -61,32 +60,29 @@ abbrev pub is_over : SessionState → List Fields → Bool
 is_over s [] = false
 is_over s (m ∷ ms) = is_end (reaction s m) || is_over (after s m) ms
 
--- where the message `last`, behind those `before`, ends session `s`, nothing behind it counts:
--- neither in the text nor in what is asked
+-- if the message `last`, after those `before`, ends session `s`, no further message has an effect on its text or its asks
 pub record NothingFollows (s : SessionState) (before : List Fields) (last : Fields) : Type 0 where
   pub text : (bytes : List ℕ) → reaction (after_all s before) last ≡ Ends bytes → (others more : List Fields) (answers : List Answer)
       → session_text s (before ++ last ∷ others) answers ≡ session_text s (before ++ last ∷ more) answers
   pub asks : (bytes : List ℕ) → reaction (after_all s before) last ≡ Ends bytes → (others more : List Fields) → asks s (before ++ last ∷ others) ≡ asks s (before ++ last ∷ more)
 
--- what session `s` writes upon `answers` is the front of what it writes upon these and `more` of them
+-- the text of session `s` with the answers `answers` is a prefix of its text with these and `more`
 pub record IsFrontOfMore (s : SessionState) (ms : List Fields) (answers more : List Answer) : Type 0 where
   pub rest : List ℕ
   pub is : session_text s ms (answers ++ more) ≡ session_text s ms answers ++ rest
 
--- the text of session `s` upon the messages `ms` is the front of its text upon these and `more` of them
+-- the text of session `s` for the messages `ms` is a prefix of its text for these and `more`
 pub record IsFrontOfLonger (s : SessionState) (ms more : List Fields) (answers : List Answer) : Type 0 where
   pub rest : List ℕ
   pub is : session_text s (ms ++ more) answers ≡ session_text s ms answers ++ rest
 
--- `ms` are the messages of session `s` in the stream `bytes`: one of them ends it, or no other
--- stands behind them
+-- `ms` are the messages of session `s` in the stream `bytes`: one of them ends it, or there is no other after them
 pub record AreOf (s : SessionState) (bytes : List ℕ) (ms : List Fields) : Type 0 where
   pub rest : List ℕ
   pub gives : Gives bytes ms rest
   pub whole : (is_over s ms ≡ true) ⊎ IsRest rest
 
--- session `s` writes the same upon the messages `ms` as upon `others`, whatever the answers, and
--- asks the same
+-- session `s` writes the same for the messages `ms` as for `others`, whatever the answers, and asks the same
 pub record SameText (s : SessionState) (ms others : List Fields) : Type 0 where
   pub text : (answers : List Answer) → session_text s ms answers ≡ session_text s others answers
   pub asks : asks s ms ≡ asks s others

@@ -8,14 +8,14 @@ use crate::values::is_word;
 use ami_text::Message;
 use replica::Refusal;
 
-/// An action of the Manager Interface that asks something of a site.
+/// An action of the Manager Interface that asks a site.
 #[derive(Clone, Copy)]
 pub enum Action {
     /// Adds a member to a queue.
     QueueAdd,
     /// Removes a member from a queue.
     QueueRemove,
-    /// Pauses an interface in a queue or in every one that it is a member of, or goes on with it.
+    /// Pauses or unpauses an interface in a queue or in every one that it is a member of.
     QueuePause,
     /// Sets the penalty of an interface in a queue or in every one that it is a member of.
     QueuePenalty,
@@ -43,7 +43,7 @@ fn first_absent(
     }
 }
 
-// What an error says of a refusal.
+// The error text of a refusal.
 fn refusal_text(refusal: Refusal) -> &'static str
     ensures { result.now ≡ refusal_text refusal }
 {
@@ -58,7 +58,7 @@ fn refusal_text(refusal: Refusal) -> &'static str
     }
 }
 
-// What an error says of a removal that is refused.
+// The error text of a refused removal.
 fn removal_refusal_text(refusal: Refusal) -> &'static str
     ensures { result.now ≡ removal_refusal_text refusal }
 {
@@ -105,7 +105,7 @@ impl Action {
         }
     }
 
-    /// What a reply says where the site has done it, by whether the message's `Paused` says yes.
+    /// The success text, by whether the message's `Paused` says yes.
     pub fn success(self, says_yes: bool) -> &'static str
         ensures { result.now ≡ (row_of self).success says_yes }
     {
@@ -120,7 +120,7 @@ impl Action {
         }
     }
 
-    /// What a reply says where the site has refused it.
+    /// The error text of this refusal.
     pub fn refusal(self, refusal: Refusal) -> &'static str
         ensures { result.now ≡ (row_of self).refusal refusal }
     {

@@ -1,4 +1,4 @@
-//! What the messages of the actions ask, field by field.
+//! The asks of the actions' messages, field by field.
 ghost use Rattle.std.specs.Prelude.{◌≡◌, true, false, codes, Some, None, unwrap_or, MatchOption};
 ghost use Rattle.std.specs.Prelude.{MatchResult, IfOk};
 ghost use Rattle.std.specs.Option.{option_map};
@@ -15,11 +15,10 @@ use replica::Command;
 use status_report::{Ask, StatusRequest};
 use std::alloc::Global;
 
-/// A field that is there but can't be read: its name.
+/// The name of a field that is present but can't be read.
 pub type Unreadable = &'static str;
 
-/// The ActionID of a message; no bytes where it has none. One that holds a CR or NUL counts as absent. The one
-/// fault is want of memory.
+/// The ActionID of a message; no bytes if it has none. One that holds a CR or NUL counts as absent. Fails only when out of memory.
 pub fn action_id(alloc: Global, message: &Message) -> Result<Bytes, Memory>
     ensures { IfOk result (λ id. id ≡ id_of message.now) }
 {
@@ -47,8 +46,9 @@ fn penalty_in(message: &Message) -> Option<Penalty>
     penalty_of(message.get(b"Penalty").unwrap_or(b"0"))
 }
 
-/// What a QueueAdd asks that lacks no field, and whose Paused says yes where `paused`. `Err` names the first field, in the order Queue,
-/// Interface, Penalty, Paused, MemberName, StateInterface, that can't be read. An absent penalty is 0, an absent Paused is no.
+/// The ask of a QueueAdd without an absent required field; `paused` is whether its Paused says yes. `Err` names the first field, in
+/// the order Queue, Interface, Penalty, Paused, MemberName, StateInterface, that can't be read. An absent penalty is 0, an absent
+/// Paused is no.
 pub fn queue_add(message: &Message, paused: bool) -> Result<Command, Unreadable>
     requires none_absent { absent_in (row_of Action.QueueAdd) message.now ≡ None }
     requires paused { paused ≡ says_yes (codes "Paused") message.now }
@@ -80,7 +80,7 @@ pub fn queue_add(message: &Message, paused: bool) -> Result<Command, Unreadable>
     })
 }
 
-/// What a QueueRemove asks that lacks no field. `Err` names the first of Queue and Interface that can't be read.
+/// The ask of a QueueRemove without an absent required field. `Err` names the first of Queue and Interface that can't be read.
 pub fn queue_remove(message: &Message) -> Result<Command, Unreadable>
     requires { absent_in (row_of Action.QueueRemove) message.now ≡ None }
     ensures { MatchResult result
@@ -109,9 +109,9 @@ fn optional_queue(value: Option<&[u8]>) -> Option<Option<QueueName>>
     }
 }
 
-/// What a QueuePause asks that lacks no field, and whose Paused says yes where `paused`: without a Queue of every queue that the
-/// interface is a member of. `Err` names the first field, in the order Interface, Queue, Reason, that can't be read; a reason is read
-/// whatever Paused says.
+/// The ask of a QueuePause without an absent required field; `paused` is whether its Paused says yes. Without a Queue it is for
+/// every queue that the interface is a member of. `Err` names the first field, in the order Interface, Queue, Reason, that can't be
+/// read; a reason is read whatever Paused says.
 pub fn queue_pause(message: &Message, paused: bool) -> Result<Command, Unreadable>
     requires none_absent { absent_in (row_of Action.QueuePause) message.now ≡ None }
     requires paused { paused ≡ says_yes (codes "Paused") message.now }
@@ -135,8 +135,8 @@ pub fn queue_pause(message: &Message, paused: bool) -> Result<Command, Unreadabl
     })
 }
 
-/// What a QueuePenalty asks that lacks no field: without a Queue of every queue that the interface is a member of. `Err` names the
-/// first field, in the order Interface, Penalty, Queue, that can't be read.
+/// The ask of a QueuePenalty without an absent required field. Without a Queue it is for every queue that the interface is a member
+/// of. `Err` names the first field, in the order Interface, Penalty, Queue, that can't be read.
 pub fn queue_penalty(message: &Message) -> Result<Command, Unreadable>
     requires { absent_in (row_of Action.QueuePenalty) message.now ≡ None }
     ensures { MatchResult result
@@ -159,8 +159,8 @@ pub fn queue_penalty(message: &Message) -> Result<Command, Unreadable>
     })
 }
 
-/// What a QueueMemberRingInUse asks that lacks no field: without a Queue of every queue that the interface is a member of. `Err`
-/// names the first of Interface and Queue that can't be read; a RingInUse always can.
+/// The ask of a QueueMemberRingInUse without an absent required field. Without a Queue it is for every queue that the interface is
+/// a member of. `Err` names the first of Interface and Queue that can't be read; a RingInUse can always be read.
 pub fn queue_member_ring_in_use(message: &Message) -> Result<Command, Unreadable>
     requires { absent_in (row_of Action.QueueMemberRingInUse) message.now ≡ None }
     ensures { MatchResult result
@@ -193,7 +193,7 @@ fn optional_text(value: Option<&[u8]>) -> Option<Option<Text80>>
     }
 }
 
-/// What a QueueStatus asks, under this ActionID. `Err` names the first of Queue and Member that can't be read.
+/// The ask of a QueueStatus, under this ActionID. `Err` names the first of Queue and Member that can't be read.
 pub fn queue_status(message: &Message, action_id: Bytes) -> Result<StatusRequest, Unreadable>
     requires { action_id ≡ id_of message.now }
     ensures { MatchResult result

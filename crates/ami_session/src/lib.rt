@@ -1,7 +1,7 @@
-//! Sessions of Asterisk's Manager Interface: what a client's messages ask of a site, and the replies.
+//! Sessions of Asterisk's Manager Interface: the asks of a client's messages, and the replies.
 //!
-//! A session looks at one message at a time. It replies by itself, or says what is to be asked of the site; the
-//! reply then follows from the site's answer.
+//! A session handles one message at a time. It replies by itself, or returns an ask for the site; the reply
+//! then follows from the site's answer.
 #![tactic(auto)]
 
 mod act;

@@ -35,8 +35,8 @@ impl Pending {
         }
     }
 
-    /// The reply upon this answer: a report as its bytes, a refusal as the action's error text, and done as its success
-    /// text. The one fault is want of memory; the message still waits then.
+    /// The reply with this answer: a report as its bytes, a refusal as the action's error text, and done as its success
+    /// text. Fails only when out of memory; the message still waits then.
     pub fn answer(self, alloc: Global, answer: Answer) -> Result<Vec<u8>, (Memory, Pending)>
         ensures reply { IfOk result (λ bytes. bytes.items ≡ answer_reply self answer) }
         ensures waits { IfErr result (λ refused. refused.1 ≡ self) }

@@ -7,15 +7,15 @@ use ami_text::{push_action_id_line, push_end, push_field};
 use dots::{Bytes, Memory};
 use std::alloc::Global;
 
-// For how many bytes a reply has room at first: most have fewer.
+// The room in bytes that a reply has at first; most replies have fewer bytes.
 const FIRST_ROOM: usize = 128;
 
 /// How a reply begins.
 #[derive(Clone, Copy)]
 pub enum Response {
-    /// What was asked is done.
+    /// The command was done, or the request accepted.
     Success,
-    /// It is not.
+    /// The request failed.
     Error,
     /// The session ends.
     Goodbye,
@@ -33,7 +33,7 @@ impl Response {
     }
 }
 
-/// A reply with this message. The one fault is want of memory.
+/// A reply with this message. Fails only when out of memory.
 pub fn message_reply(
     alloc: Global,
     response: Response,
@@ -51,8 +51,8 @@ pub fn message_reply(
     Ok(out)
 }
 
-/// An error about a field: what stands before its name, the name, and what stands after it. The one fault is want
-/// of memory.
+/// An error about a field: the text before its name, the name, and the text after it. Fails only when out of
+/// memory.
 pub fn field_error(
     alloc: Global,
     action_id: &Bytes,

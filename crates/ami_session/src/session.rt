@@ -30,18 +30,18 @@ struct Credentials {
     secret: Text80,
 }
 
-// The line that greets a client where a session has been given no other.
+// The default greeting, without the line's end.
 const GREETING: &[u8] = b"Queue Sites Call Manager/1.0.0";
 
 /// One client's session (Asterisk's Manager Interface): how it greets, whether it is logged in, and who may log in.
 #[derive(Drop)]
 pub struct Session {
-    // None where it greets as all do.
+    // `None` for the default greeting.
     greeting: Option<Text80>,
-    // None where every Login is accepted.
+    // `None` if every Login is accepted.
     credentials: Option<Credentials>,
     logged_in: bool,
-    // With how many refused Logins more it ends. None: with none.
+    // The number of further refused Logins with which it ends; `None` if it never ends so.
     tries: Option<u32>,
 }
 
@@ -79,7 +79,7 @@ fn goodbye(alloc: Global, id: &Bytes) -> Result<Act, Memory>
     Ok(Act::End(bytes))
 }
 
-// What an action asks, or the field that can't be read.
+// The ask of an action, or the field that can't be read.
 fn ask_of(action: Action, message: &Message, paused: bool, id: Bytes) -> Result<Ask, Unreadable>
     requires id { id ≡ id_of message.now }
     requires paused { paused ≡ says_yes (codes "Paused") message.now }
@@ -98,7 +98,7 @@ fn ask_of(action: Action, message: &Message, paused: bool, id: Bytes) -> Result<
     }
 }
 
-// What a message of a known action asks of the site, or what is wrong with it.
+// The ask of a message of a known action, or what is wrong with it.
 fn asked(alloc: Global, action: Action, message: &Message, id: Bytes) -> Result<Act, Memory>
     requires { id ≡ id_of message.now }
     ensures { IfOk result (λ act. reaction_of act ≡ named_reaction (Some action) message.now) }
@@ -118,8 +118,8 @@ fn asked(alloc: Global, action: Action, message: &Message, id: Bytes) -> Result<
 }
 
 impl Session {
-    /// A session that isn't logged in, for this user and secret; nobody can send one that is no login word
-    /// (`is_login_word`). It greets with `Queue Sites Call Manager/1.0.0`.
+    /// A session that isn't logged in, for this user and secret; no client can send one that is no login word (`is_login_word`).
+    /// It greets with `Queue Sites Call Manager/1.0.0`.
     pub fn new(user: Text80, secret: Text80) -> Session
         ensures { result ≡ record {
           greeting = own_greeting;
@@ -136,7 +136,7 @@ impl Session {
         }
     }
 
-    /// A session that needs no Login, and accepts every one. It greets as above.
+    /// A session that needs no Login, and accepts every one. It greets with `Queue Sites Call Manager/1.0.0`.
     pub fn trusted() -> Session
         ensures { result ≡ record {
           greeting = own_greeting;
@@ -166,7 +166,7 @@ impl Session {
         }
     }
 
-    /// The session that ends with the reply to its refused Login of this number, counted from 1. 0 is as 1.
+    /// The session that ends with the reply to its `tries`th refused Login. 0 counts as 1.
     pub fn with_tries(self, tries: u32) -> Session
         ensures { result ≡ record self { tries = Some tries } }
     {
@@ -185,7 +185,7 @@ impl Session {
         self.logged_in
     }
 
-    /// With how many refused Logins more it ends. `None`: with none.
+    /// The number of further refused Logins with which it ends; `None` if refused Logins don't end it.
     pub fn tries(&self) -> Option<u32>
         ensures { result ≡ self.now.tries }
     {
@@ -202,8 +202,8 @@ impl Session {
         }
     }
 
-    // Whether user and secret are the session's, byte by byte; an absent one counts as empty. Both are compared to their ends, so that the
-    // time that it takes doesn't tell how much of them is right.
+    // Whether user and secret are the session's, byte by byte; an absent one counts as empty. Compares both to their ends, so that
+    // the time that it takes doesn't show how many bytes of them are right.
     fn accepts(&self, message: &Message) -> bool
         ensures { result ≡ accepts self.now.login message.now }
     {
@@ -216,7 +216,7 @@ impl Session {
         }
     }
 
-    // The reply to a refused Login, with which a try is gone. It ends the session where that was the last.
+    // The reply to a refused Login, which uses up a try. It ends the session if that was the last.
     fn refuse(&mut self, reply: Vec<u8>) -> Act
         ensures reaction { reaction_of result ≡ (if is_last_try self.old.tries then Ends reply.items
             else Replies reply.items) }
@@ -231,7 +231,7 @@ impl Session {
         }
     }
 
-    // A Login: accepted, or an error, with which a try is gone.
+    // The reaction to a Login: accepted, or an error, which uses up a try.
     fn login(&mut self, alloc: Global, message: &Message, id: &Bytes) -> Result<Act, Memory>
         requires { id.now ≡ id_of message.now }
         ensures reaction { IfOk result
@@ -253,7 +253,7 @@ impl Session {
         Ok(Act::Reply(bytes))
     }
 
-    // What the session does upon a message of this action.
+    // The session's reaction to a message of this action.
     fn react(
         &mut self,
         alloc: Global,
@@ -282,11 +282,18 @@ impl Session {
         }
     }
 
-    /// What the session does upon a message. In this order: a message with no `Action` is an error; `Logoff` ends the
-    /// session; `Login` is accepted where user and secret are the session's, and else is an error, with which a try is gone
-    /// (`with_tries`), and the session ends with the last of them; before a Login all else is an error; so is an action that
-    /// isn't known, then a required field that is absent, then a field that can't be read; and then the site is asked. The
-    /// one error is `Memory`, and leaves the session as it was.
+    /// Returns the session's reaction to a message. The checks, in order:
+    ///
+    /// 1. A message with no `Action` is an error.
+    /// 2. `Logoff` ends the session.
+    /// 3. `Login` is accepted if user and secret are the session's. Otherwise it is an error and uses up a try (`with_tries`); the
+    ///    last try ends the session.
+    /// 4. Before a Login every other action is an error.
+    /// 5. An unknown action is an error.
+    /// 6. A required field that is absent is an error, and then a field that can't be read.
+    /// 7. Otherwise the session asks the site.
+    ///
+    /// Fails only with `Memory`, which leaves the session as it was.
     pub fn handle(&mut self, alloc: Global, message: &Message) -> Result<Act, Memory>
         ensures reaction { IfOk result (λ act. reaction_of act ≡ reaction self.old message.now) }
         ensures after { OnOk result (self.new ≡ after self.old message.now) }

@@ -1,4 +1,4 @@
-//! How the values of fields are read.
+//! Reads the values of fields.
 ghost use Rattle.std.specs.Prelude.{◌≡◌, ◌≢◌, ◌↔◌, [], unwrap_or, IsTrue};
 ghost use Rattle.std.specs.List.{list_any};
 ghost use Rattle.std.specs.Str.{bytes_eq};
@@ -54,16 +54,15 @@ pub fn text_of(value: &[u8]) -> Option<Text80>
     Text80::new(value).ok()
 }
 
-/// Whether a client can send this user or secret: a field's value is read without the spaces and tabs
-/// at its ends, and one that is empty counts as absent (this project's own). With another word nobody
-/// can log in; but where it is empty, whoever sends none can.
+/// Whether a client can send this user or secret: a field's value is read without the spaces and tabs at its ends, and an empty
+/// one counts as absent. No client can log in with another word, except with an empty one, by a Login without that field.
 pub fn is_login_word(word: &Text80) -> bool
     ensures { IsTrue result ↔ ((word.now ≢ []) × (trim_of word.now ≡ word.now)) }
 {
     !word.is_empty() && trimmed(word.as_bytes()) == word.as_bytes()
 }
 
-/// Whether two texts are the same. Every byte of the shorter one is looked at, so that the time that it takes tells at most how long the
+/// Whether two texts are the same. Reads every byte of the shorter one, so that the time that it takes shows at most how long the
 /// texts are, and not where they differ.
 pub fn is_same_text(one: &[u8], other: &[u8]) -> bool
     ensures { result ≡ bytes_eq one.now other.now }

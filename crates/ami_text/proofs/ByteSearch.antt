@@ -49,7 +49,7 @@ around_lf hay n lt here =
     let is : get_or hay n 0 ≡ 10 = eqb-true (get_or hay n 0) 10 here in
     sym (take-append-drop n hay) ∙ ap (λ ys. take n hay ++ ys) (drop_more hay n 0 lt ∙ ap (λ b. b ∷ drop (n + 1) hay) is)
 
--- the same, where the second part is a part of the text
+-- a field of the two parts around a colon, where the second part is a part of the text
 pub field_of_parts : (text : List ℕ) (k : ℕ) (name value : List ℕ) → NoneBefore (Passes (is_byte 58) text) 0 (length text) k × Passes (is_byte 58) text k
     → name ≡ trim_of (take k text) → value ≡ trim_of (take (length text - (k + 1)) (drop (k + 1) text))
     → Some (name, value) ≡ field_of text

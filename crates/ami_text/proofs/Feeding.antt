@@ -42,7 +42,7 @@ reached_more held piece progress r = record {
       ∙ ap (λ ys. lines_text r.read ++ ys) (append_assoc r.part r.ahead piece);
 }
 
--- the same, where memory may have been refused
+-- more bytes lie ahead, where memory may have been refused
 pub reached_fed : {T E : Type 0} (r : Result T E) (held piece new : List ℕ) (progress : Progress) → OnOk r (new ≡ held ++ piece) → OnErr r (new ≡ held)
     → IsProgress held progress → IsProgress new progress
 reached_fed (Ok x) held piece new progress is same r = subst (λ ys. IsProgress ys progress) (sym is) (reached_more held piece progress r)

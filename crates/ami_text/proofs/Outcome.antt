@@ -203,7 +203,7 @@ outcome_fault TooManyFields bytes l =
     ∙ rw (whole_lines_line l.line l.more l.is_full.no_lf, fits, some, many) refl
 outcome_fault Memory bytes none = absurd none
 
--- the same of what a scan found
+-- the outcome of a message that a scan found
 pub outcome_found : (held : List ℕ) (end next : ℕ) (f : EndsMessage held end next) → first_of held ≡ Whole (fields_of f.lines) (drop next held)
 outcome_found held end next f = outcome_message held (fields_of f.lines) (drop next held) (record {
   lines = f.lines;

@@ -94,7 +94,7 @@ fault_after TooManyFields empties bytes each l = record {
 }
 fault_after Memory empties bytes each none = absurd none
 
--- nor are they before messages
+-- empty lines before messages have no effect
 pub gives_after : (empties : List (List ℕ)) (messages : List (List NameAndValue)) (bytes rest : List ℕ) → All IsEmptyLine empties → Gives bytes messages rest
     → Gives (lines_text empties ++ bytes) messages rest
 gives_after empties [] bytes rest each g = (

@@ -30,7 +30,7 @@ pub record Scanned (held : List ℕ) (empty line lines looked : ℕ) : Type 0 wh
   pub looked_at : line + length part ≡ looked
   pub whole : held ≡ lines_text empties ++ (lines_text read ++ (part ++ ahead))
 
--- the same, where the next line's LF is at `end`
+-- the progress of a scan where the next line's LF is at `end`
 pub record LineFound (held : List ℕ) (empty line lines end : ℕ) : Type 0 where
   pub empties : List (List ℕ)
   pub read : List (List ℕ)

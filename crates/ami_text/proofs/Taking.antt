@@ -8,7 +8,7 @@ pub taken_none : (known : Option (List ℕ)) → Appends known known []
 taken_none None = tt
 taken_none (Some held) = sym (append-nil held)
 
--- it has taken a front, and then a piece
+-- a sink has taken a prefix, and then a piece
 pub taken_grows : (before now after : Option (List ℕ)) (front piece : List ℕ) → Appends before now front → Appends now after piece
     → Appends before after (front ++ piece)
 taken_grows None now after front piece first then = tt
@@ -22,7 +22,7 @@ pub given_none : (known : Option (List ℕ)) → Consumes known known []
 given_none None = tt
 given_none (Some left) = refl
 
--- it has given a front, and then a piece
+-- a source has given a prefix, and then a piece
 pub given_grows : (before now after : Option (List ℕ)) (front piece : List ℕ) → Consumes before now front → Consumes now after piece
     → Consumes before after (front ++ piece)
 given_grows None now after front piece first then = tt
@@ -31,7 +31,7 @@ given_grows (Some all) (Some more) (Some left) front piece first then =
 given_grows (Some all) (Some more) None front piece first then = absurd then
 given_grows (Some all) None after front piece first then = absurd first
 
--- a front of bytes grows by what comes next
+-- a prefix of bytes grows by the next bytes
 pub front_grows : (bytes front rest : List ℕ) (n : ℕ) → bytes ≡ front ++ rest → bytes ≡ (front ++ take n rest) ++ take (length rest - n) (drop n rest)
 front_grows bytes front rest n is =
     is ∙ ap (λ t. front ++ t) (sym (take-append-drop n rest)) ∙ sym (append_assoc front (take n rest) (drop n rest))

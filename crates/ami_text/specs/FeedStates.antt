@@ -1,4 +1,4 @@
--- What a feed is seen as.
+-- What contracts see of a feed.
 use Rattle.std.specs.Prelude.{ℕ, List, Option, None, Some}
 use Rattle.ami_text.specs.declared.feed_fault.FeedFault.{FeedFault}
 use Rattle.ami_text.specs.declared.feed_fault.FeedFault.TheVariants.{LineTooLong, TooManyFields, Memory}
@@ -8,7 +8,7 @@ pub record FeedState : Type 0 where
   pub held : List ℕ
   pub fault : Option FeedFault
 
--- no fault, or one of the stream's: want of memory is none
+-- no fault, or one of the stream: out of memory is none
 abbrev pub IsStreamFault : Option FeedFault → Type 0
 IsStreamFault None = Unit {0}
 IsStreamFault (Some LineTooLong) = Unit {0}

@@ -1,4 +1,4 @@
--- Whether a stream has had a whole message (this project's own): lines as those of the Manager stream, without its limits.
+-- Whether a stream has had a whole message: lines as those of the Manager stream, without its limits.
 use Rattle.std.specs.Prelude.{ℕ, ◌≡◌, ◌<◌, ◌==◌, ⊤, List, [], ◌∷◌, ◌++◌, length, if◌then◌else◌}
 use Rattle.std.specs.List.{All}
 use Rattle.ami_text.specs.Lines.{HasNoLf, content, IsEmptyLine, lines_text}
@@ -9,13 +9,13 @@ use Rattle.ami_text.specs.declared.first_message_so_far.LineSoFar.TheVariants.{E
 
 -- ---- byte by byte
 
--- a line with one byte more, which isn't LF
+-- a line after one more byte, which isn't LF
 abbrev pub line_after : LineSoFar → ℕ → LineSoFar
 line_after Empty byte = if byte == 13 then Cr else Full
 line_after Cr byte = Full
 line_after Full byte = Full
 
--- a message with the end of a line more
+-- a message after the end of a line
 abbrev pub after_end : FirstMessageSoFar → FirstMessageSoFar
 after_end (Awaited Empty) = Awaited Empty
 after_end (Awaited Cr) = Awaited Empty
@@ -25,7 +25,7 @@ after_end (Begun Cr) = Ended
 after_end (Begun Full) = Begun Empty
 after_end Ended = Ended
 
--- a message with one byte more, which isn't LF
+-- a message after one more byte, which isn't LF
 abbrev pub after_content : FirstMessageSoFar → ℕ → FirstMessageSoFar
 after_content (Awaited line) byte = Awaited (line_after line byte)
 after_content (Begun line) byte = Begun (line_after line byte)
@@ -41,7 +41,7 @@ IsEnded Ended = ⊤
 IsEnded (Awaited line) = ⊥
 IsEnded (Begun line) = ⊥
 
--- ---- what it says of the bytes
+-- ---- the state of the bytes
 
 -- a whole line with content
 pub record HasContent (line : List ℕ) : Type 0 where
@@ -54,7 +54,7 @@ IsLineSoFar part Empty = part ≡ []
 IsLineSoFar part Cr = part ≡ 13 ∷ []
 IsLineSoFar part Full = HasContent part
 
--- only empty lines have come, and then this of a line
+-- the bytes are empty lines, followed by this part of a line
 pub record IsAwaited (sent : List ℕ) (line : LineSoFar) : Type 0 where
   pub empties : List (List ℕ)
   pub part : List ℕ
@@ -62,7 +62,7 @@ pub record IsAwaited (sent : List ℕ) (line : LineSoFar) : Type 0 where
   pub so_far : IsLineSoFar part line
   pub whole : sent ≡ lines_text empties ++ part
 
--- empty lines have come, then some with content, and then this of a line
+-- the bytes are empty lines, lines with content, and this part of a line
 pub record IsBegun (sent : List ℕ) (line : LineSoFar) : Type 0 where
   pub empties : List (List ℕ)
   pub lines : List (List ℕ)
@@ -73,7 +73,7 @@ pub record IsBegun (sent : List ℕ) (line : LineSoFar) : Type 0 where
   pub so_far : IsLineSoFar part line
   pub whole : sent ≡ lines_text empties ++ (lines_text lines ++ part)
 
--- empty lines have come, then some with content, then an empty one, and then more
+-- the bytes are empty lines, lines with content, an empty line, and more
 pub record HasMessage (sent : List ℕ) : Type 0 where
   pub empties : List (List ℕ)
   pub lines : List (List ℕ)
@@ -85,7 +85,7 @@ pub record HasMessage (sent : List ℕ) : Type 0 where
   pub is_empty : IsEmptyLine last
   pub whole : sent ≡ lines_text empties ++ (lines_text lines ++ (last ++ 10 ∷ more))
 
--- so far has the stream come that has had these bytes
+-- a stream of these bytes is in this state
 abbrev pub HasSent : List ℕ → FirstMessageSoFar → Type 0
 HasSent sent (Awaited line) = IsAwaited sent line
 HasSent sent (Begun line) = IsBegun sent line

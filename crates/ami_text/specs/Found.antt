@@ -1,4 +1,4 @@
--- What was found first in held bytes.
+-- The first thing in held bytes.
 use Rattle.std.specs.Prelude.{◌≡◌, ◌<◌, ◌≤◌, ℕ, List, ◌∷◌, ◌++◌, length, take, drop, All}
 use Rattle.ami_text.specs.declared.found.Found.{Found}
 use Rattle.ami_text.specs.declared.found.Found.TheVariants.{Message, Rest, Fault}
@@ -19,8 +19,8 @@ pub record EndsMessage (held : List ℕ) (end next : ℕ) : Type 0 where
   pub end_within : end ≤ length held
   pub next_within : next ≤ length held
 
--- behind `empty` bytes of empty lines there is no whole message and no fault, and all of it was
--- looked at
+-- after `empty` bytes of empty lines there is no whole message and no fault, and all of it was
+-- scanned
 pub record EndsInRest (held : List ℕ) (empty : ℕ) (progress : Progress) : Type 0 where
   pub empties : List (List ℕ)
   pub each_empty : All IsEmptyLine empties
@@ -29,7 +29,7 @@ pub record EndsInRest (held : List ℕ) (empty : ℕ) (progress : Progress) : Ty
   pub is_rest : IsRest (drop empty held)
   pub reached : IsProgress (drop empty held) progress
 
--- by what was found
+-- what holds of the held bytes, by the thing that was found
 abbrev pub IsFound : List ℕ → Found → Type 0
 IsFound held (Message end next) = EndsMessage held end next
 IsFound held (Rest empty progress) = EndsInRest held empty progress

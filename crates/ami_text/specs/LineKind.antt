@@ -1,10 +1,10 @@
--- What the kind of a line says of its content.
+-- The content of a line, by its kind.
 use Rattle.std.specs.Prelude.{◌≡◌, ◌<◌, ◌≤◌, ℕ, List, length}
 use Rattle.ami_text.specs.declared.line_kind.LineKind.{LineKind}
 use Rattle.ami_text.specs.declared.line_kind.LineKind.TheVariants.{Empty, Full, TooLong}
 use Rattle.ami_text.specs.Lines.{content}
 
--- no content, some within the limit, or more
+-- a content is of this kind: empty, within the limit, or longer
 abbrev pub HasKind : List ℕ → LineKind → Type 0
 HasKind line Empty = length (content line) ≡ 0
 HasKind line Full = (0 < length (content line)) × (length (content line) ≤ 1024)

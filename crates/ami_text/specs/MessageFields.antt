@@ -1,4 +1,4 @@
--- The fields of a message: what its lines say, and the value that a name has.
+-- The fields of a message: those of its lines, and the value that a name has.
 use Rattle.std.specs.Prelude.{◌==◌, ◌||◌, ℕ, Bool, Option, Some, None, List, [], ◌∷◌, reverse, map, if◌then◌else◌}
 use Rattle.std.specs.List.{after_first, before_first, filter_map, list_any}
 use Rattle.std.specs.Str.{bytes_eq}
@@ -30,8 +30,7 @@ trimmed_end bytes = reverse (trimmed_front (reverse bytes))
 abbrev pub trim_of : List ℕ → List ℕ
 trim_of bytes = trimmed_end (trimmed_front bytes)
 
--- the field that a content with a colon is: what stands before and after the first colon, each
--- trimmed
+-- the field of a content with a colon: the text before and after the first colon, each trimmed
 abbrev pub field_of : List ℕ → Option (List ℕ × List ℕ)
 field_of text =
     if list_any is_colon text
@@ -42,7 +41,7 @@ field_of text =
 abbrev pub fields_of : List (List ℕ) → List (List ℕ × List ℕ)
 fields_of lines = filter_map (λ line. field_of (content line)) lines
 
--- two names are the same where ASCII letters of either case are
+-- two names are the same, compared without ASCII case
 abbrev pub same_name : List ℕ → List ℕ → Bool
 same_name a b = bytes_eq (map to_ascii_lowercase a) (map to_ascii_lowercase b)
 

@@ -1,9 +1,9 @@
--- Numbers that stand in a text as decimal digits.
+-- Numbers in a text, as decimal digits.
 use Rattle.std.specs.Prelude.{ℕ, ◌+◌, ◌*◌, ◌-◌, not, nat_lt, List, [], ◌∷◌, length, Option, Some, None, if◌then◌else◌}
 use Rattle.std.specs.List.{list_all}
 use Rattle.std.specs.Char.{is_ascii_digit}
 
--- the number of which this one's digits and then these are the decimal digits
+-- the number whose decimal digits are those of `n`, followed by these
 abbrev pub read_on : ℕ → List ℕ → ℕ
 read_on n [] = n
 read_on n (d ∷ ds) = read_on (n * 10 + (d - 48)) ds

@@ -1,10 +1,10 @@
--- How far a feed has looked at the bytes that it holds.
+-- How far a feed has scanned the bytes that it holds.
 use Rattle.std.specs.Prelude.{◌≡◌, ◌≤◌, ◌+◌, ℕ, List, ◌++◌, length, All}
 use Rattle.ami_text.specs.declared.progress.Progress.{Progress}
 use Rattle.ami_text.specs.Lines.{HasNoLf, IsFullLine, lines_text}
 
--- whole lines of a message up to `line`, then bytes without LF up to `looked`, and then what lies
--- ahead
+-- whole lines of a message up to `line`, then bytes without LF up to `looked`, and then the
+-- unscanned bytes
 pub record IsProgress (held : List ℕ) (progress : Progress) : Type 0 where
   pub read : List (List ℕ)
   pub part : List ℕ

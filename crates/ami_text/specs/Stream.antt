@@ -1,4 +1,4 @@
--- The Manager stream: the messages that stand in bytes one after another, and then a rest or a fault.
+-- The Manager stream: the messages of bytes in order, and then a rest or a fault.
 use Rattle.std.specs.Prelude.{◌≡◌, ◌<◌, ◌≤◌, ℕ, List, [], ◌∷◌, ◌++◌, length, All}
 use Rattle.ami_text.specs.declared.feed_fault.FeedFault.{FeedFault}
 use Rattle.ami_text.specs.declared.feed_fault.FeedFault.TheVariants.{LineTooLong, TooManyFields, Memory}
@@ -33,7 +33,7 @@ pub record IsRest (bytes : List ℕ) : Type 0 where
   pub fits : length (content part) ≤ 1024
   pub whole : bytes ≡ lines_text lines ++ part
 
--- the next line's content has more than 1,024 bytes, whether or not the line's end has come
+-- the next line's content has more than 1,024 bytes, with or without the line's end
 pub record ShowsLongLine (bytes : List ℕ) : Type 0 where
   pub lines : List (List ℕ)
   pub part : List ℕ
@@ -57,8 +57,7 @@ HasFault LineTooLong bytes = ShowsLongLine bytes
 HasFault TooManyFields bytes = EndsTooManyLines bytes
 HasFault Memory bytes = ⊥
 
--- these messages stand in the bytes one after another, and the rest follows; empty lines before it
--- are nothing
+-- the bytes have these messages in order, and the rest follows; empty lines before it are ignored
 abbrev pub Gives : List ℕ → List (List NameAndValue) → List ℕ → Type 0
 Gives bytes [] rest =
     (empties : List (List ℕ)) × All IsEmptyLine empties × (bytes ≡ lines_text empties ++ rest)

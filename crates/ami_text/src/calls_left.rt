@@ -1,7 +1,8 @@
 ghost use Rattle.std.specs.Prelude.{◌≡◌, ◌≢◌, ◌↔◌, Some, IsTrue};
 ghost use Rattle.ami_text.specs.Devices.{one_less};
 
-/// Counts a call down, where calls are counted. False where none was left, so that this one fails.
+/// Counts a call down, where calls are counted. Returns false if none was left, so that this call
+/// fails.
 pub fn count_down(calls_left: &mut Option<u64>) -> bool
     ensures due { IsTrue result ↔ (calls_left.old ≢ Some 0) }
     ensures counted { calls_left.new ≡ one_less calls_left.old }

@@ -14,16 +14,15 @@ use held_bytes::HeldBytes;
 use std::alloc::Global;
 use std::marker::Model;
 
-/// Cuts a stream of bytes that comes in any pieces into messages (the rules are this project's
-/// own).
+/// Cuts a stream of bytes, which arrives in pieces of any size, into messages.
 ///
-/// LF ends a line, and one CR right before it belongs to the end. An empty line ends a message; one
-/// with no line before it is nothing. A line's content has at most 1,024 bytes, and a message at
-/// most 128 lines that aren't empty.
+/// LF ends a line, and one CR right before it belongs to the end. An empty line ends a message; an
+/// empty line before the first line of a message is ignored. A line's content has at most 1,024
+/// bytes, and a message at most 128 lines that aren't empty.
 ///
 /// It holds the bytes that belong to no message yet: after a `None` at most 128 lines and a part of
-/// one, 132,353 bytes in all. Each byte is looked at and moved a bounded number of times, whatever
-/// the pieces.
+/// one, 132,353 bytes in all. Each byte is read and moved a bounded number of times, whatever the
+/// pieces.
 #[derive(Drop)]
 pub struct Feed {
     alloc: Global,
@@ -44,7 +43,7 @@ impl Model for Feed {
 }
 
 impl Feed {
-    /// A feed that holds nothing.
+    /// An empty feed.
     pub fn new(alloc: Global) -> Self
         ensures { result ≡ record { held = []; fault = None } }
     {
@@ -56,8 +55,7 @@ impl Feed {
         }
     }
 
-    /// Takes the next piece of the stream, of any length. A feed that has failed takes no notice of
-    /// it.
+    /// Takes the next piece of the stream, of any length. A feed that has failed ignores it.
     ///
     /// `Memory`: memory was refused, and the feed is as before.
     pub fn feed(&mut self, piece: &[u8]) -> Result<(), Memory>
@@ -73,13 +71,14 @@ impl Feed {
         self.held.append(piece)
     }
 
-    /// The next message of the stream; `None` where what is held is no whole message and shows no
+    /// The next message of the stream; `None` if the held bytes are no whole message and show no
     /// fault.
     ///
+    /// Errors, in order:
     /// 1. `LineTooLong`: the next line's content has more than 1,024 bytes, seen as soon as the
-    ///    held bytes show it. The feed has failed: each later call answers the same.
+    ///    held bytes show it. The feed has failed: each later call returns the same fault.
     /// 2. `TooManyFields`: a 129th line that isn't empty has ended before the message did. The feed
-    ///    has failed as above.
+    ///    has failed: each later call returns the same fault.
     /// 3. `Memory`: memory was refused, and the feed is as before.
     pub fn next_message(&mut self) -> Result<Option<Message>, FeedFault>
         ensures message { IfOk result (λ next. IfSome next (λ m.
@@ -92,7 +91,7 @@ impl Feed {
         ensures fault { IfErr result (λ f. IsStreamFault (Some f) →
             (self.old.fault ≡ Some f) ⊎ HasFault f self.old.held) }
 
-        // Each of the three wherever the held bytes show it.
+        // Each of the three results is returned wherever the held bytes show it.
         ensures message_shown { self.old.fault ≡ None → (m : List NameAndValue) (rest : List ℕ) →
             FirstMessage self.old.held m rest →
             (result ≡ Ok (Some m)) ⊎ (result ≡ Err FeedFault.Memory) }

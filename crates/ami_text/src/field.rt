@@ -7,9 +7,9 @@ use std::marker::Model;
 /// A name and its value.
 #[derive(Drop)]
 pub struct Field {
-    // The name, with the value behind it.
+    // The name, followed by the value.
     text: Vec<u8>,
-    // How many bytes the name has.
+    // The length of the name in bytes.
     name_length: usize,
 }
 

@@ -1,14 +1,14 @@
-//! Whether a stream has had a whole message, told by its bytes as they come.
+//! Whether a stream has had a whole message, found byte by byte.
 ghost use Rattle.std.specs.Prelude.{◌≡◌, ◌++◌, [], List, ℕ, ◌↔◌, IsTrue};
 ghost use Rattle.ami_text.specs.FirstMessages.{HasSent, IsEnded, after_content, after_end};
 ghost use Rattle.ami_text.specs.FirstMessages.{line_after, message_after};
 
-/// What has come of a line whose LF hasn't.
+/// The part read so far of a line whose LF wasn't read yet.
 #[derive(Clone, Copy)]
 pub enum LineSoFar {
     /// Nothing.
     Empty,
-    /// One CR, which belongs to the line's end where that comes next.
+    /// One CR, which belongs to the line's end if LF is next.
     Cr,
     /// Some content.
     Full,
@@ -26,21 +26,22 @@ impl LineSoFar {
     }
 }
 
-/// How far a stream has come with its first message (this project's own). An empty line behind one
-/// with content ends the message, be it of lines that are ignored; lines and messages that are too
-/// long are as others. It keeps none of the bytes.
+/// The progress of a stream with its first message. An empty line after one with content ends the
+/// message, even if a feed ignores its lines; there are no limits of lines and messages. Keeps none
+/// of the bytes.
 #[derive(Clone, Copy)]
 pub enum FirstMessageSoFar {
-    /// No line with content has ended, and this has come of the next line.
+    /// No line with content has ended; the part read so far of the next line.
     Awaited(LineSoFar),
-    /// One has, no empty line has ended behind it, and this has come of the next line.
+    /// A line with content has ended, and no empty line after it; the part read so far of the next
+    /// line.
     Begun(LineSoFar),
     /// The message has ended.
     Ended,
 }
 
 impl FirstMessageSoFar {
-    /// That of a stream of which nothing has come.
+    /// The state of an empty stream.
     pub fn new() -> FirstMessageSoFar
         ensures { HasSent [] result }
     {
@@ -57,7 +58,7 @@ impl FirstMessageSoFar {
         }
     }
 
-    // With the end of a line more.
+    // The state after the end of a line.
     fn after_end(self) -> FirstMessageSoFar
         ensures { result ≡ after_end self }
     {
@@ -83,7 +84,7 @@ impl FirstMessageSoFar {
         }
     }
 
-    // With one byte more.
+    // The state after one more byte.
     fn after_byte(self, byte: u8) -> FirstMessageSoFar
         ensures { result ≡ message_after self byte }
     {
@@ -94,7 +95,7 @@ impl FirstMessageSoFar {
         }
     }
 
-    /// That of the stream with these bytes more, whatever came before them.
+    /// The state of the stream after these bytes, whatever was before them.
     pub fn after(self, bytes: &[u8]) -> FirstMessageSoFar
         ensures { (sent : List ℕ) → HasSent sent self → HasSent (sent ++ bytes.now) result }
     {

@@ -1,13 +1,12 @@
-//! What the definitions of the stream promise. The functions have no body: their contracts are the
-//! laws, which a caller's proof has where its code calls the function.
+//! Laws of the stream. The functions have no body: their contracts are the laws, which a caller's
+//! proof has where its code calls the function.
 
 ghost use Rattle.std.specs.Prelude.{◌≡◌, ℕ, List, [], ◌∷◌, ◌++◌};
 ghost use Rattle.ami_text.specs.declared.feed_fault.FeedFault.{FeedFault};
 ghost use Rattle.ami_text.specs.MessageFields.{NameAndValue};
 ghost use Rattle.ami_text.specs.Stream.{Ending, Fault, FirstMessage, Gives, HasFault, Reads};
 
-/// Each stream has a list of messages, and then a rest or a fault; and it has one such list, and
-/// one rest or one fault.
+/// Each stream has exactly one list of messages, followed by exactly one rest or one fault.
 pub fn stream_has_one_outcome()
     ensures some { (bytes : List ℕ) →
         (messages : List (List NameAndValue)) × (ending : Ending) × Reads bytes messages ending }
@@ -31,9 +30,9 @@ pub fn stream_of_two_pieces()
         Reads first messages (Fault fault) → Reads (first ++ second) messages (Fault fault) }
 {}
 
-/// How the messages so far grow, call by call: nothing has been given of any bytes, a first message
-/// is one message, more bytes change neither the messages nor a fault, and the messages of what is
-/// left follow those before.
+/// How the list of messages grows, call by call: it is empty for no bytes, a first message is one
+/// message, more bytes change neither the messages nor a fault, and the messages of the rest follow
+/// those before.
 pub fn messages_so_far()
     ensures none { (bytes : List ℕ) → Gives bytes [] bytes }
     ensures one { (bytes rest : List ℕ) (message : List NameAndValue) →

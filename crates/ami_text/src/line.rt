@@ -24,7 +24,7 @@ pub fn content(line: &[u8]) -> &[u8]
     }
 }
 
-/// What the line is, by its content's length.
+/// The kind of the line, by its content's length.
 pub fn kind(line: &[u8]) -> LineKind
     ensures { HasKind line.now result }
 {
@@ -57,15 +57,14 @@ pub fn trimmed_end(bytes: &[u8]) -> &[u8]
     rest
 }
 
-/// The bytes without spaces and tabs at both ends, as a field's name and its value are read (this
-/// project's own).
+/// The bytes without spaces and tabs at both ends, as a field's name and its value are read.
 pub fn trimmed(bytes: &[u8]) -> &[u8]
     ensures { result.now ≡ trim_of bytes.now }
 {
     trimmed_end(trimmed_front(bytes))
 }
 
-/// The name and the value of a line's content: what stands before and after its first colon. None
+/// The name and the value of a line's content: the text before and after its first colon. `None`
 /// without a colon.
 pub fn name_and_value(content: &[u8]) -> Option<(&[u8], &[u8])>
     ensures { option_map (λ (p : Bor (List ℕ) × Bor (List ℕ)). (p.0.now, p.1.now)) result

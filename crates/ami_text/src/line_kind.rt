@@ -1,4 +1,4 @@
-/// What a line is, by its content.
+/// The kind of a line, by its content.
 #[derive(Clone, Copy)]
 pub enum LineKind {
     Empty,

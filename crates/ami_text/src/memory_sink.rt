@@ -43,7 +43,8 @@ impl MemorySink {
         }
     }
 
-    /// The same, where `writes` writes succeed, as far as memory goes, and the next one fails.
+    /// A sink that takes at most `most` bytes a write; `writes` writes succeed, unless memory is
+    /// refused, and the next one fails.
     pub fn failing(alloc: Global, most: usize, writes: u64) -> Self
         ensures { result
             ≡ record { taken = []; most = most; writes_left = Some writes; failed = false } }
@@ -69,7 +70,7 @@ impl Sink for MemorySink {
 
     ghost failed = { λ s. s.failed };
 
-    /// Keeps the front of the bytes, up to the most of one write.
+    /// Keeps the first bytes, up to the most of one write.
     ///
     /// `Failed`: no more writes were to succeed, or memory was refused.
     fn write(&mut self, bytes: &[u8]) -> Result<usize, Failed>
@@ -82,7 +83,7 @@ impl Sink for MemorySink {
         ensures fails { OnErr result (self.new.failed ≡ true) }
         ensures err_bytes { OnErr result (self.new.taken ≡ self.old.taken) }
 
-        // It takes as much as one write may take, until the write that is to fail.
+        // Takes as much as one write may take, until the write that is to fail.
         ensures most { IfOk result (λ n. n ≡ min (length bytes.now) self.old.most) }
         ensures due { self.old.writes_left ≡ Some 0 → IsErr result }
         ensures writes { self.new.writes_left ≡ one_less self.old.writes_left }

@@ -51,7 +51,8 @@ impl<'a> MemorySource<'a> {
         }
     }
 
-    /// The same, where `reads` reads succeed and the next one fails.
+    /// A source that gives these bytes, at most `most` of them a read; `reads` reads succeed and the
+    /// next one fails.
     pub fn failing(bytes: &'a [u8], most: usize, reads: u64) -> Self
         requires { 0 < most }
         ensures bytes { result.left ≡ bytes.now }
@@ -106,7 +107,7 @@ impl<'a> Source for MemorySource<'a> {
         ensures err_end { OnErr result (self.new.ended ≡ self.old.ended) }
         ensures counted { unwrap_or self.old.reads_left 0 ≤ unwrap_or self.new.reads_left 0 + 1 }
 
-        // It gives as much as one read may give, until the read that is to fail.
+        // Gives as much as one read may give, until the read that is to fail.
         ensures most { IfOk result (λ n.
             n ≡ min (min (length self.old.left) self.old.most) (length piece.old)) }
         ensures due { IsErr result ↔ (self.old.reads_left ≡ Some 0) }

@@ -10,7 +10,7 @@ use bstr::ByteSlice;
 use std::alloc::Global;
 use std::marker::Model;
 
-/// A message: its fields in order, each a name and a value (the rules are this project's own).
+/// A message: its fields in order, each a name and a value.
 ///
 /// A line with a colon is a field: its name stands before the first colon and its value after it,
 /// each without spaces and tabs at its ends. Lines without a colon are left out.
@@ -39,7 +39,7 @@ fn first_value<'a>(fields: &'a [Field], name: &[u8]) -> Option<&'a [u8]>
     None
 }
 
-// Adds the field that a line is; a line without a colon is none.
+// Adds the field of a line; a line without a colon has none.
 fn push_line(alloc: Global, fields: &mut Vec<Field>, line: &[u8]) -> Result<(), Memory>
     ensures { OnOk result (fields.new.items
         ≡ fields.old.items ++ fields_of (line.now ∷ [])) }
@@ -51,9 +51,9 @@ fn push_line(alloc: Global, fields: &mut Vec<Field>, line: &[u8]) -> Result<(), 
 }
 
 impl Message {
-    /// The value of the first field of this name, where ASCII letters of either case are the same.
-    /// `None` where there is no such field, and where its value is empty: a later field of the name
-    /// doesn't count. It takes no memory.
+    /// The value of the first field of this name, compared without ASCII case. `None` if there is
+    /// no such field, or if its value is empty: a later field of the name doesn't count. Takes no
+    /// memory.
     pub fn get(&self, name: &[u8]) -> Option<&[u8]>
         ensures { option_copied result ≡ value_of name.now self.now }
     {

@@ -1,4 +1,4 @@
-//! Numbers that stand in a text as decimal digits.
+//! Numbers in a text, as decimal digits.
 ghost use Rattle.std.specs.Prelude.{◌≡◌, ◌<◌, ◌≤◌, ◌^◌, length, true};
 ghost use Rattle.std.specs.Option.{SomeIff};
 ghost use Rattle.std.specs.List.{list_all};
@@ -33,8 +33,8 @@ fn number_of(digits: &[u8]) -> Option<u64>
     }
 }
 
-/// The number that 1 to `most` decimal digits spell, be the first of them zeros; `None` where the word
-/// isn't such digits alone. `most` is at most 19.
+/// The number that 1 to `most` decimal digits spell, including leading zeros; `None` if the word has
+/// other bytes or another length. `most` is at most 19.
 pub fn number_in(most: usize, word: &[u8]) -> Option<u64>
     requires { most ≤ 19 }
     ensures { result ≡ number_in most word.now }

@@ -1,4 +1,4 @@
-/// How far held bytes were looked at: whole lines up to `line`, of which `lines` aren't empty, and
+/// How far held bytes were scanned: whole lines up to `line`, of which `lines` aren't empty, and
 /// from there no LF up to `looked`.
 #[derive(Clone, Copy)]
 pub struct Progress {
@@ -8,7 +8,7 @@ pub struct Progress {
 }
 
 impl Progress {
-    /// Nothing was looked at.
+    /// No byte was scanned.
     pub const START: Progress = Progress {
         line: 0,
         lines: 0,

@@ -1,4 +1,4 @@
-//! What stands first in held bytes.
+//! Finds the first thing in held bytes.
 
 ghost use Rattle.ami_text.specs.Found.{IsFound};
 ghost use Rattle.ami_text.specs.Progress.{IsProgress};
@@ -13,7 +13,7 @@ use bstr::ByteSlice;
 /// The most lines of a message, empty ones aside.
 pub const LINES_LIMIT: usize = 128;
 
-/// Looks at the held bytes from where it stopped the last time.
+/// Scans the held bytes from where the last scan stopped.
 pub fn scan(held: &[u8], from: Progress) -> Found
     requires { IsProgress held.now from }
     ensures { IsFound held.now result }

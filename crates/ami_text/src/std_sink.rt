@@ -5,24 +5,24 @@ ghost use Rattle.ami_text.specs.StdDevices.{sink_writer, sink_failed, sink_waits
 use crate::{Failed, Sink};
 use std::io::{ErrorKind, Write};
 
-/// How often one write or flush that is interrupted is tried before the device counts as failed.
+/// The most tries of a write or flush that is interrupted; then the device counts as failed.
 pub const WRITE_TRIES: u32 = 1000;
 
-/// A sink over a writer of std's. The bytes that it has taken are those that the writer holds, where
-/// the writer tells them, so with what it held before. Each write is flushed, so that a writer which
-/// holds bytes back, as a `BufWriter`, sends them on at once.
+/// A sink over a writer of std. Its taken bytes are those that the writer holds, if the writer
+/// exposes them, so they begin with what it held before. Each write is flushed, so that a writer with
+/// a buffer, such as `BufWriter`, sends them on at once.
 #[derive(Drop)]
 pub struct StdSink<W> {
     writer: W,
-    // How often one write may wait for as long as the writer lets it.
+    // How often one write may wait until the writer's time limit.
     waits: u32,
-    // The last flush failed, and the next write does.
+    // Whether the last flush failed; then the next write fails.
     is_stuck: bool,
     failed: bool,
 }
 
 impl<W> StdSink<W> {
-    /// A sink that hands what it takes to the writer. One write waits once.
+    /// A sink that passes its bytes to the writer. One write waits once.
     pub fn new(writer: W) -> Self
         ensures writer { sink_writer result ≡ writer }
         ensures waits { sink_waits result ≡ 1 }
@@ -36,10 +36,10 @@ impl<W> StdSink<W> {
         }
     }
 
-    /// The sink whose writes wait so often: one that would block or times out is tried again, up to
-    /// so many tries. So over a writer whose writes wait for a limited time, a write is given up
-    /// after so many times that time in which no byte was taken, and bytes that are taken meanwhile
-    /// are told within that time (this project's own). 0 is as 1, and more than 1,000 as that.
+    /// The sink with at most `waits` tries of a write that would block or times out; 0 counts as 1,
+    /// and more than 1,000 as 1,000. So over a writer with a time limit, a write is given up after
+    /// `waits` times that limit in which no byte was taken, and it reports bytes that were taken
+    /// within one limit.
     pub fn with_waits(self, waits: u32) -> Self
         ensures writer { sink_writer result ≡ sink_writer self }
         ensures waits { sink_waits result ≡ waits }
@@ -61,7 +61,7 @@ impl<W> StdSink<W> {
     }
 }
 
-// Writes once, and tries again where the write is interrupted, or has waited and may wait again.
+// Writes once, and retries a write that is interrupted, or that has waited and may wait again.
 fn write_retrying<W: Write>(writer: &mut W, waits: u32, bytes: &[u8]) -> Result<usize, Failed>
     ensures count { IfOk result (λ n. n ≤ length bytes.now) }
     ensures writer { WriteAppends (W.contents writer.old) (W.contents writer.new) result bytes.now }
@@ -80,7 +80,7 @@ fn write_retrying<W: Write>(writer: &mut W, waits: u32, bytes: &[u8]) -> Result<
     Err(Failed)
 }
 
-// Flushes, and tries again where that is interrupted.
+// Flushes, and retries a flush that is interrupted.
 fn flush_retrying<W: Write>(writer: &mut W) -> Result<(), Failed>
     ensures { Keeps (W.contents writer.old) (W.contents writer.new) }
 {
@@ -102,13 +102,12 @@ impl<W: Write> Sink for StdSink<W> {
 
     ghost failed = { λ s. sink_failed s };
 
-    /// Writes once to the writer, and flushes it. Where one of the two is interrupted it is tried
-    /// again, a thousand times in all; so is a write that would block or times out, as often as it
-    /// may wait.
+    /// Writes once to the writer, and flushes it. An interrupted write or flush is retried, a
+    /// thousand tries in all; so is a write that would block or times out, as often as it may wait.
     ///
-    /// `Failed`: the writer answered `WouldBlock` or `TimedOut` as often as a write may wait, another
+    /// `Failed`: the writer returned `WouldBlock` or `TimedOut` as often as a write may wait, another
     /// error once, or was interrupted a thousand times; or the flush of the write before, whose bytes
-    /// the writer had taken, was answered with any error, or interrupted a thousand times.
+    /// the writer had taken, returned an error, or was interrupted a thousand times.
     fn write(&mut self, bytes: &[u8]) -> Result<usize, Failed>
         requires { sink_failed self.old ≡ false }
         ensures count { IfOk result (λ n. n ≤ length bytes.now) }

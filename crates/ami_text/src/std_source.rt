@@ -6,11 +6,11 @@ ghost use Rattle.ami_text.specs.StdDevices.{source_reader, source_ended, source_
 use crate::{Failed, Source};
 use std::io::{ErrorKind, Read};
 
-/// How often one read that is interrupted is tried before the device counts as failed.
+/// The most tries of a read that is interrupted; then the device counts as failed.
 pub const READ_TRIES: u32 = 1000;
 
-/// A source over a reader of std's. The bytes that it has left are those that the reader has, where
-/// the reader tells them.
+/// A source over a reader of std. Its bytes left to give are those of the reader, if the reader
+/// exposes them.
 #[derive(Drop)]
 pub struct StdSource<R> {
     reader: R,
@@ -19,7 +19,7 @@ pub struct StdSource<R> {
 }
 
 impl<R> StdSource<R> {
-    /// A source that gives what the reader gives from here on.
+    /// A source of the reader's bytes from here on.
     pub fn new(reader: R) -> Self
         ensures reader { source_reader result ≡ reader }
         ensures ended { source_ended result ≡ false }
@@ -40,7 +40,7 @@ impl<R> StdSource<R> {
     }
 }
 
-// Reads once, and tries again where the read is interrupted.
+// Reads once, and retries a read that is interrupted.
 fn read_retrying<R: Read>(reader: &mut R, piece: &mut [u8]) -> Result<usize, Failed>
     ensures count { IfOk result (λ n. n ≤ length piece.new) }
     ensures reader { ReadConsumes (R.remaining reader.old)
@@ -66,11 +66,10 @@ impl<R: Read> Source for StdSource<R> {
 
     ghost failed = { λ s. source_failed s };
 
-    /// Reads once from the reader. A read that is interrupted is tried again, a thousand times in
-    /// all.
+    /// Reads once from the reader. An interrupted read is retried, a thousand tries in all.
     ///
-    /// `Failed`: the reader answered an error, be it `WouldBlock` or `TimedOut`, or was interrupted a
-    /// thousand times.
+    /// `Failed`: the reader returned an error, `WouldBlock` and `TimedOut` included, or was
+    /// interrupted a thousand times.
     fn read(&mut self, piece: &mut [u8]) -> Result<usize, Failed>
         requires { source_failed self.old ≡ false }
         ensures count { IfOk result (λ n. n ≤ length piece.new) }

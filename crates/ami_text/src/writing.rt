@@ -1,4 +1,4 @@
-//! Bytes are written whole, in as many writes as the sink makes of them.
+//! Writes all bytes, in as many writes as the sink needs.
 ghost use Rattle.std.specs.Prelude.{◌≡◌, true, false, OnOk, OnErr};
 ghost use Rattle.std.specs.Io.KnownBytes.{Appends};
 ghost use Rattle.ami_text.specs.Devices.{HasTaken};
@@ -7,7 +7,7 @@ use crate::{Failed, Sink};
 
 /// Writes all the bytes.
 ///
-/// `Failed`: the sink failed, or took none of the bytes that were left; it has taken a front of
+/// `Failed`: the sink failed, or took none of the bytes that were left; it has taken a prefix of
 /// them, and may not be written to again.
 pub fn write_all<W: Sink>(writer: &mut W, bytes: &[u8]) -> Result<(), Failed>
     requires { W.failed writer.old ≡ false }

@@ -5,8 +5,8 @@ ghost use Rattle.ami_text.specs.WrittenLines.{field, action_id_line};
 use crate::Memory;
 use itoa::Buffer;
 
-/// Writes a field at the end: its name, a colon and one space, its value, CR LF. The one fault is want of memory;
-/// part of the field may then stand.
+/// Appends a field: its name, a colon and one space, its value, CR LF. Fails only when out of memory, possibly after a
+/// part of the field.
 pub fn push_field(out: &mut Vec<u8>, name: &str, value: &[u8]) -> Result<(), Memory>
     ensures { OnOk result (out.new.items ≡ out.old.items ++ field name.now value.now) }
 {
@@ -16,8 +16,8 @@ pub fn push_field(out: &mut Vec<u8>, name: &str, value: &[u8]) -> Result<(), Mem
     out.extend_from_slice(b"\r\n")
 }
 
-/// Writes a field whose value is a number, in decimal digits without leading zeros. The one fault is want of
-/// memory; part of the field may then stand.
+/// Appends a field whose value is a number, in decimal digits without leading zeros. Fails only when out of memory,
+/// possibly after a part of the field.
 pub fn push_number(out: &mut Vec<u8>, name: &str, value: u64) -> Result<(), Memory>
     ensures { OnOk result (out.new.items ≡ out.old.items ++ field name.now (decimal value)) }
 {
@@ -25,7 +25,7 @@ pub fn push_number(out: &mut Vec<u8>, name: &str, value: u64) -> Result<(), Memo
     push_field(out, name, buffer.format(value).as_bytes())
 }
 
-/// Writes a number at the end, in decimal digits without leading zeros. The one fault is want of memory.
+/// Appends a number, in decimal digits without leading zeros. Fails only when out of memory.
 pub fn push_decimal(out: &mut Vec<u8>, value: u64) -> Result<(), Memory>
     ensures { OnOk result (out.new.items ≡ out.old.items ++ decimal value) }
 {
@@ -33,8 +33,8 @@ pub fn push_decimal(out: &mut Vec<u8>, value: u64) -> Result<(), Memory>
     out.extend_from_slice(buffer.format(value).as_bytes())
 }
 
-/// Writes the line of an ActionID at the end, and nothing where it has no bytes. The one fault is want of memory; part
-/// of the line may then stand.
+/// Appends the line of an ActionID; nothing if that has no bytes. Fails only when out of memory, possibly after a part
+/// of the line.
 pub fn push_action_id_line(out: &mut Vec<u8>, action_id: &[u8]) -> Result<(), Memory>
     ensures { OnOk result (out.new.items ≡ out.old.items ++ action_id_line action_id.now) }
 {
@@ -44,7 +44,7 @@ pub fn push_action_id_line(out: &mut Vec<u8>, action_id: &[u8]) -> Result<(), Me
     push_field(out, "ActionID", action_id)
 }
 
-/// Writes the empty line that ends a message. The one fault is want of memory.
+/// Appends the empty line that ends a message. Fails only when out of memory.
 pub fn push_end(out: &mut Vec<u8>) -> Result<(), Memory>
     ensures { OnOk result (out.new.items ≡ out.old.items ++ codes "\r\n") }
 {

@@ -12,7 +12,7 @@ use Rattle.ask_code.specs.declared.kind.Kind.TheVariants as kind
 use Rattle.ask_code.specs.Codes.{After, Code, bit_code, both, led, optional}
 use Rattle.ask_code.specs.Values.{IsKeptAnswer, answer_code, kind_code, label_code, name_code, pause_code, penalty_code}
 
--- what an add has: queue, interface, penalty, whether the member begins paused, and label
+-- the parts of an add: queue, interface, penalty, whether the member begins paused, and label
 abbrev pub AddParts : Type 0
 AddParts = List ℕ × (List ℕ × (ℕ × (Bool × Label)))
 
@@ -24,7 +24,7 @@ add_code = both name_code (both name_code (both penalty_code (both bit_code labe
 abbrev pub remove_code : Code (List ℕ × List ℕ)
 remove_code = both name_code name_code
 
--- What follows the kind of a setting: the queue, where it is of one alone, the interface, and what is set.
+-- What follows the kind of a setting: the queue, if it is for one queue only, the interface, and the field.
 abbrev pub setting_code : {A : Type 0} → Code A → Code (Option (List ℕ) × (List ℕ × A))
 setting_code code = both (optional name_code) (both name_code code)
 
@@ -38,7 +38,7 @@ kind_of (command.RingInUse queue interface ring) = kind.RingInUse
 kind_of (command.Completed queue) = kind.Completed
 kind_of (command.Abandoned queue) = kind.Abandoned
 
--- how a command is spelled behind its kind
+-- the bytes of a command after its kind
 abbrev pub content_bytes : Command → List ℕ
 content_bytes (command.Add queue interface penalty paused label) = add_code.spell (queue, (interface, (penalty, (paused, label))))
 content_bytes (command.Remove queue interface) = remove_code.spell (queue, interface)
@@ -48,7 +48,7 @@ content_bytes (command.RingInUse queue interface ring) = (setting_code bit_code)
 content_bytes (command.Completed queue) = name_code.spell queue
 content_bytes (command.Abandoned queue) = name_code.spell queue
 
--- all that a command has is within the limits of its types
+-- all parts of a command are within the limits of their types
 abbrev pub IsCommand : Command → Type 0
 IsCommand (command.Add queue interface penalty paused label) = add_code.IsGood (queue, (interface, (penalty, (paused, label))))
 IsCommand (command.Remove queue interface) = remove_code.IsGood (queue, interface)
@@ -58,7 +58,7 @@ IsCommand (command.RingInUse queue interface ring) = (setting_code bit_code).IsG
 IsCommand (command.Completed queue) = name_code.IsGood queue
 IsCommand (command.Abandoned queue) = name_code.IsGood queue
 
--- which fault bytes have behind a kind that is no fault
+-- the fault of bytes after a kind that has none
 abbrev pub ContentFails : Kind → AskFault → List ℕ → Type 0
 ContentFails kind.Add fault bytes = add_code.Fails fault bytes
 ContentFails kind.Remove fault bytes = remove_code.Fails fault bytes
@@ -84,7 +84,7 @@ ask_bytes ask = ask_code.spell (ask.command, ask.answer)
 abbrev pub IsAsk : AnsweredCommand → Type 0
 IsAsk ask = IsCommand ask.command × IsKeptAnswer ask.answer
 
--- Bytes have this fault: no command with its answer stands at their front, or more bytes follow it.
+-- Bytes have this fault: they don't begin with a command with its answer, or more bytes follow it.
 abbrev pub HasFault : AskFault → List ℕ → Type 0
 HasFault fault bytes = ask_code.Fails fault bytes ⊎ After ask_code (λ ask rest. (rest ≢ []) × (fault ≡ Trailing)) bytes
 

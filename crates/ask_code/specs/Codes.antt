@@ -1,16 +1,16 @@
--- Codes: how values are spelled as bytes, and which fault other bytes have. Numbers are big-endian.
+-- Codes: the bytes of values, and the faults of other bytes. Numbers are big-endian.
 use Rattle.std.specs.Prelude.{ℕ, ⊤, ◌≡◌, ◌≢◌, ◌<◌, ◌^◌, ◌⊎◌, Bool, true, false, IsTrue, List, [], ◌∷◌, ◌++◌, length, Option, Some, None, IfSome, is_some}
 use Rattle.std.specs.Int.{w32, to_be_bytes}
 use Rattle.ask_code.specs.declared.ask_fault.AskFault.{AskFault}
 use Rattle.ask_code.specs.declared.ask_fault.AskFault.TheVariants.{BadBit, Truncated}
 
--- A code: how each value is spelled, which values are spelled at all, and which fault bytes have that begin with none.
+-- A code: the bytes of each value, the values that have an encoding, and the fault of bytes that begin with none.
 pub record Code (A : Type 0) : Type 1 where
   pub spell : A → List ℕ
   pub IsGood : A → Type 0
   pub Fails : AskFault → List ℕ → Type 0
 
--- Bytes begin with a good value of a code, and this holds of the value and of the bytes after it.
+-- Bytes begin with a good value of a code, and the property holds of the value and of the bytes after it.
 pub record After {A : Type 0} (code : Code A) (Next : A → List ℕ → Type 0) (bytes : List ℕ) : Type 0 where
   pub value : A
   pub rest : List ℕ
@@ -18,7 +18,7 @@ pub record After {A : Type 0} (code : Code A) (Next : A → List ℕ → Type 0)
   pub spelled : bytes ≡ code.spell value ++ rest
   pub next : Next value rest
 
--- ---- raw parts: their one fault is that they are not all there
+-- ---- raw parts: their only fault is that bytes are missing
 
 -- One byte.
 abbrev pub byte_code : Code ℕ
@@ -39,7 +39,7 @@ counted_code = record { spell = λ xs. length xs ∷ xs; IsGood = λ xs. length 
 
 -- ---- codes made of others
 
--- Values that are spelled as the raw part `raw_of` them. A raw part that is of no value has the fault `rule`.
+-- Values with the bytes of their raw part, by `raw_of`. A raw part without a value has the fault `rule`.
 abbrev pub coded : {R A : Type 0} → Code R → (A → R) → (A → Type 0) → AskFault → Code A
 coded {R} {A} raw raw_of IsValue rule = record {
   spell = λ x. raw.spell (raw_of x);
@@ -47,7 +47,7 @@ coded {R} {A} raw raw_of IsValue rule = record {
   Fails = λ fault bytes. raw.Fails fault bytes ⊎ After raw (λ r rest. ((x : A) → IsValue x → raw_of x ≢ r) × (fault ≡ rule)) bytes;
 }
 
--- Values that are spelled as their lead, by a code of its own, and then the rest. Which fault the rest has depends on the lead.
+-- Values with the bytes of their lead, by a code of its own, followed by the rest. The faults of the rest depend on the lead.
 abbrev pub led : {A B : Type 0} → Code A → (B → A) → (B → List ℕ) → (B → Type 0) → (A → AskFault → List ℕ → Type 0) → Code B
 led lead lead_of rest_bytes IsValue RestFails = record {
   spell = λ x. lead.spell (lead_of x) ++ rest_bytes x;
@@ -59,7 +59,8 @@ led lead lead_of rest_bytes IsValue RestFails = record {
 abbrev pub both : {A B : Type 0} → Code A → Code B → Code (A × B)
 both a b = led a (λ p. p.0) (λ p. b.spell p.1) (λ p. a.IsGood p.0 × b.IsGood p.1) (λ first fault rest. b.Fails fault rest)
 
--- Values that are spelled as their view is, by another code. Its faults are theirs only where each good value of it is the view of a value.
+-- Values with the bytes of their view, by another code. The faults are those of that code, provided that each good value of it is
+-- the view of a value.
 abbrev pub viewed : {A B : Type 0} → Code B → (A → B) → (A → Type 0) → Code A
 viewed code view IsValue = record { spell = λ x. code.spell (view x); IsGood = IsValue; Fails = code.Fails }
 
@@ -72,7 +73,7 @@ bit_of false = 0
 abbrev pub bit_code : Code Bool
 bit_code = coded byte_code bit_of (λ bit. ⊤) BadBit
 
--- the bytes of a value, where there is one
+-- the bytes of a value, if there is one
 abbrev pub optional_bytes : {A : Type 0} → (A → List ℕ) → Option A → List ℕ
 optional_bytes spell None = []
 optional_bytes spell (Some x) = spell x

@@ -1,4 +1,4 @@
--- What a command with its answer has of a site's step.
+-- The part of a site's step that is a command with its answer.
 use Rattle.std.specs.Prelude.{◌≡◌}
 use Rattle.status_report.specs.Answers.{answer_of}
 use Rattle.status_report.specs.declared.asks.Answer.{Answer}

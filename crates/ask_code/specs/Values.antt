@@ -10,7 +10,7 @@ use Rattle.ask_code.specs.declared.kind.Kind.{Kind}
 use Rattle.ask_code.specs.declared.kind.Kind.TheVariants.{Add, Remove, Pause, Penalty, RingInUse, Completed, Abandoned}
 use Rattle.ask_code.specs.Codes.{Code, both, byte_code, coded, counted_code, number_code, optional, viewed}
 
--- A text: how many bytes it has, and these.
+-- A text: its number of bytes, and these.
 abbrev pub text_code : Code (List ℕ)
 text_code = coded counted_code (λ text. text) IsText BadText
 
@@ -22,11 +22,11 @@ name_code = coded counted_code (λ name. name) IsName BadText
 abbrev pub penalty_code : Code ℕ
 penalty_code = coded number_code (λ penalty. penalty) IsPenalty BadNumber
 
--- why a member is paused, if it is
+-- the reason of a paused member; `None` if it isn't paused
 abbrev pub reason_of : PauseState → Option (List ℕ)
 reason_of pause = if pause.paused then Some pause.reason else None
 
--- A pause: the reason, where it is one.
+-- A pause: the reason, if the member is paused.
 abbrev pub pause_code : Code PauseState
 pause_code = viewed (optional text_code) reason_of IsPause
 

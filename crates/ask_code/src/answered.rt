@@ -4,7 +4,7 @@ ghost use Rattle.ask_code.specs.Steps.{IsAnsweredStep};
 use replica::{Command, Refusal};
 use status_report::{Answer, Ask};
 
-/// A command that a site was asked, and what it answered.
+/// A command, and a site's answer to it.
 #[derive(Drop)]
 pub struct AnsweredCommand {
     /// The command.
@@ -14,8 +14,8 @@ pub struct AnsweredCommand {
 }
 
 impl AnsweredCommand {
-    /// Returns a copy of the command that was asked, with its answer. `None` for a status, and for the refusal `Memory`, which no store
-    /// keeps. It allocates nothing.
+    /// Returns a copy of the command of an ask, with its answer. `None` for a status, and for the refusal `Memory`, which no store
+    /// keeps. Allocates nothing.
     pub fn of(ask: &Ask, answer: &Answer) -> Option<AnsweredCommand>
         ensures { (answered : AnsweredCommand)
             → (result ≡ Some answered) ↔ IsAnsweredStep answered ask.now answer.now }

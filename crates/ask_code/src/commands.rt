@@ -12,10 +12,10 @@ use crate::reader::Reader;
 use dots::{Interface, Label, Pause, Penalty, QueueName};
 use replica::Command;
 
-// What an add has: queue, interface, penalty, whether the member begins paused, and label.
+// The parts of an add: queue, interface, penalty, whether the member begins paused, and label.
 type AddParts = (QueueName, (Interface, (Penalty, (bool, Label))));
 
-// What a setting has: the queue, where it is of one alone, the interface, and what is set.
+// The parts of a setting: the queue, if it is for one queue only, the interface, and the field.
 type SettingParts<T> = (Option<QueueName>, (Interface, T));
 
 // The kind of a command.

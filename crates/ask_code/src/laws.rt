@@ -6,8 +6,7 @@ ghost use Rattle.ask_code.specs.declared.limits.TheConstants.{MOST_ASK_BYTES};
 ghost use Rattle.ask_code.specs.Asks.{AreBytes, HasFault, IsAsk, IsEncodedAsk, IsFaulty};
 ghost use Rattle.ask_code.specs.Asks.{ask_bytes};
 
-/// Bytes are the encoding of at most one command with its answer, and no encoding begins another. What begins with an encoding begins with
-/// no other.
+/// Bytes are the encoding of at most one command with its answer, and no encoding is a prefix of another.
 pub fn bytes_encode_one_ask()
     ensures one { (x y : AnsweredCommand) → IsAsk x → IsAsk y → ask_bytes x ≡ ask_bytes y → x ≡ y }
     ensures no_prefix { (x y : AnsweredCommand) (rest : List ℕ) → IsAsk x → IsAsk y

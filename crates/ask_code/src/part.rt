@@ -14,22 +14,22 @@ pub(crate) type AskBytes = ArrayVec<u8, MOST_ASK_BYTES>;
 
 // A part of an ask.
 pub(crate) trait Part: Drop + Sized {
-    // How it is spelled, which values it has, and which fault other bytes have.
+    // Its code: the bytes of its values, and the faults of other bytes.
     ghost code: { Code Self };
 
-    // Reads it at the front of the bytes that are left.
+    // Reads it from the front of the bytes that are left.
     fn read(reader: &mut Reader<'_>) -> Result<Self, AskFault>
         ensures good { IfOk result (λ part. code.IsGood part) }
         ensures spelled { IfOk result (λ part. reader.old ≡ code.spell part ++ reader.new) }
         ensures fault { IfErr result (λ fault. code.Fails fault reader.old) };
 }
 
-// A part that each of its values has bytes for.
+// A part whose values all have an encoding.
 pub(crate) trait WrittenPart: Part {
     // The most bytes that a value has.
     ghost most: { ℕ };
 
-    // Writes it after the bytes that are written. There is room for the longest value.
+    // Appends it to the written bytes. There is room for the longest value.
     fn put(&self, out: &mut AskBytes)
         requires room { array_vec_len out.old + most ≤ MOST_ASK_BYTES }
         ensures written { out.new.items ≡ out.old.items ++ Self.code.spell self.now }

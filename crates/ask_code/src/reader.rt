@@ -5,7 +5,7 @@ ghost use Rattle.ask_code.specs.Codes.{counted_code};
 use crate::AskFault;
 use std::marker::Model;
 
-// Bytes that are read from left to right. Contracts see those that are left.
+// Bytes that are read in order. Contracts see those that are left.
 #[derive(Drop)]
 pub(crate) struct Reader<'a> {
     left: &'a [u8],

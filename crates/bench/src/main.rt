@@ -1,12 +1,12 @@
-//! Workloads to be timed. `bench TIMES WORD..` reads frames from standard input, one behind the other, and does what each
-//! word says with all of them, as often as the number says. For each word it prints the word and a checksum of what was computed, the same on
-//! each run: `bench 100 copy join`. A word that can't be done says why.
+//! Workloads to be timed. `bench TIMES WORD..` reads frames from standard input, one after another, and runs the workload of each
+//! word on all of them, TIMES times. For each word it prints the word and a checksum of the results, the same at each run. For a
+//! workload that fails it prints why. An example is `bench 100 copy join`.
 //!
-//! The stored run does each word twice, with three frames that are seen by hand. Site 0 knows its dots 1 to 3, of which 1 and 3 are
-//! live with the penalties 1 and 3; then its next dot 4, live with the penalty 4; and site 1 knows two dots that are dead, 1 of site 0
-//! and 1 of its own, and has completed 5 calls. So there are two live dots in one run, one in one, and none in two runs beside 5
-//! calls; joined, two live dots in two runs, and 5 calls. The penalties add up to 8, and of each site one dead dot is told. Where 28
-//! bytes are always there, a run has 17, a cell 31 and a total 19, the frames have 107, 76 and 81 bytes.
+//! The stored run does each word twice, with three frames that are computed by hand. Site 0 knows its dots 1 to 3, of which 1 and 3
+//! are live with the penalties 1 and 3; then its next dot 4, live with the penalty 4; and site 1 knows two dead dots, 1 of site 0
+//! and 1 of its own, and has completed 5 calls. So there are two live dots in one run, one in one, and none in two runs with 5
+//! calls; joined, two live dots in two runs, and 5 calls. The penalties add up to 8, and of each site one dot is dead. Each frame
+//! has 28 bytes, 17 for each run, 31 for each cell and 19 for each total: 107, 76 and 81 bytes.
 #![tactic(auto)]
 
 mod workloads;
@@ -16,7 +16,7 @@ use std::alloc::Global;
 use std::env;
 use std::io::{self, Read};
 
-// How often the words are done, as the first one says; never, where it is no number.
+// The number of runs of each word, by the first word; 0 if that is no number.
 fn times(word: Option<String>) -> u32 {
     match word {
         Some(word) => word.parse().unwrap_or(0),

@@ -1,4 +1,4 @@
-//! What is done with frames, each as a function of all of them that answers a checksum, or why there is none.
+//! The workloads, each as a function of all frames that returns a checksum, or why there is none.
 use delta::Delta;
 use delta_codec::{Frame, Splitter, encode};
 use std::alloc::Global;
@@ -7,7 +7,7 @@ const NO_MEMORY: &str = "out of memory";
 
 const REFUSED: &str = "refused";
 
-/// The frames that these bytes are, one behind the other.
+/// The frames in these bytes, in order.
 pub fn frames_in(alloc: Global, bytes: &[u8]) -> Result<Vec<Frame>, &'static str> {
     let mut splitter = Splitter::new(alloc);
     let mut frames = Vec::new(alloc);
@@ -28,7 +28,7 @@ pub fn frames_in(alloc: Global, bytes: &[u8]) -> Result<Vec<Frame>, &'static str
     Ok(frames)
 }
 
-// How many dots are live, and runs known, and the completed calls of all totals.
+// The number of live dots, of runs of known dots, and the completed calls of all totals.
 fn size(delta: &Delta) -> u64 {
     let members = delta.members();
     let mut sum = (members.cells() as u64).wrapping_add(members.context().runs() as u64);
@@ -47,7 +47,7 @@ fn sizes(frames: &[Frame]) -> u64 {
     sum
 }
 
-// The sizes of copies of all deltas. Each copy behind the first is joined into the first one, or dropped.
+// The sizes of copies of all deltas. Each copy after the first is joined into the first one, or dropped.
 fn copied_sizes(frames: &[Frame], joins: bool) -> Result<u64, &'static str> {
     let Some((first, others)) = frames.split_first() else {
         return Ok(0);
@@ -80,7 +80,7 @@ fn penalties(frames: &[Frame]) -> u64 {
     sum
 }
 
-// How many runs the dead dots of the frames' makers are.
+// The number of runs of the dead dots of the frames' makers.
 fn dead_runs(frames: &[Frame]) -> Result<u64, &'static str> {
     let mut sum = 0u64;
     for frame in frames {
@@ -92,7 +92,7 @@ fn dead_runs(frames: &[Frame]) -> Result<u64, &'static str> {
     Ok(sum)
 }
 
-// How many bytes the frames have.
+// The number of bytes of the frames.
 fn encoded_bytes(alloc: Global, frames: &[Frame]) -> Result<u64, &'static str> {
     let mut sum = 0u64;
     for frame in frames {
@@ -104,7 +104,7 @@ fn encoded_bytes(alloc: Global, frames: &[Frame]) -> Result<u64, &'static str> {
     Ok(sum)
 }
 
-// The checksum of what a word says, done once with these frames, which are spelled by these bytes.
+// The checksum of a word's workload, run once on these frames, whose encoding is given.
 fn checksum(
     alloc: Global,
     word: &str,
@@ -122,7 +122,7 @@ fn checksum(
     }
 }
 
-/// The sum of the checksums of what a word says, done `times` times with these frames, which are spelled by these bytes.
+/// The sum of the checksums of a word's workload, run `times` times on these frames, whose encoding is given.
 pub fn sum_of_checksums(
     alloc: Global,
     word: &str,

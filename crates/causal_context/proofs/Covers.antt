@@ -98,7 +98,7 @@ gap (x ∷ rs) r a w h = elim (cases_Bool (in_run (first_dot r) x)) [
     left : in_run (first_dot r) x ≡ true → (true && nat_le r.last x.last) ≡ false
     left y = ap (λ b. b && nat_le r.last x.last) (sym y) ∙ first (holds r x) _ h
 
--- where one is not within, a dot is missing
+-- if one run is not within the others, a dot is missing
 pub record Missing (rs xs : List Run) : Type 0 where
   pub dot : Dot
   pub here : in_runs xs dot ≡ true
@@ -152,7 +152,7 @@ pub step_gap : (x r : Run) (rs xs : List Run) → is_below (first_dot r) x ≡ f
 step_gap x r rs xs b h a =
     ap (λ p. p && all_within (x ∷ rs) xs) (or_from _ _ h (list_any_none (holds r) rs (All-weaker (λ y. IsTrue (is_apart x y)) (λ y. holds r y ≡ false) (λ y p. none_follows x r y b p) rs a.1)))
 
--- the same, by the places that the walk has reached
+-- no run that follows holds the first dot, by the places that the walk has reached
 pub walk_none : (rs xs : List Run) (i j : ℕ) → length rs ≤ i → j < length xs → all_within (drop i rs) (drop j xs) ≡ false
 walk_none rs xs i j p l = (λ k. all_within (drop_all i rs p k) (drop j xs)) ∙ none_held (drop j xs) (omega (arith, length-drop j xs))
   where

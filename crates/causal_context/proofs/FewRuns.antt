@@ -100,7 +100,7 @@ module _ (s t : Dots) (r : Run) (counted : 1 ≤ r.first) (whole : r.first ≤ r
 misses : (r x : Run) (n : ℕ) → is_apart r x ≡ true → x.first ≤ suc n → in_run (record { site = x.site; count = n }) r ≡ false
 misses r x n a l = grind (arith, nat_tests)
 
--- nor has one of those before it in a list
+-- the runs before a run in a list have none of its dots
 before_miss : (xs : List Run) (i : ℕ) (e : Run) (n : ℕ) → AreApart xs → i < length xs → (get_or xs i e).first ≤ suc n
     → in_runs (take i xs) (record { site = (get_or xs i e).site; count = n }) ≡ false
 before_miss [] i e n a l h = absurd (omega (arith, l))

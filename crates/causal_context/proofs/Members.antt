@@ -21,7 +21,7 @@ any_of_one p rs r m h = list_any_at p rs m.0 r m.1 (ap p m.2 ∙ h)
 pub has_of_run : (rs : List Run) (r : Run) (d : Dot) → Contains rs r → in_run d r ≡ true → in_runs rs d ≡ true
 has_of_run rs r d m h = any_of_one (in_run d) rs r m h
 
--- and not the dot past the end of one of its runs
+-- a list of runs hasn't the dot past the end of one of its runs
 pub misses_past_run : (rs : List Run) (r : Run) → AreApart rs → Contains rs r → in_runs rs (next_dot (last_dot r)) ≡ false
 misses_past_run rs r a m = second _ _ (ends_of_apart rs a (last_dot r) ∙ any_of_one (is_end (last_dot r)) rs r m (own r))
   where

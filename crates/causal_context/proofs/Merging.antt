@@ -158,7 +158,7 @@ all_but_last : (P : Run → Type 0) (rs : List Run) (x y : Run) → All P (rs ++
 all_but_last P [] x y a p = All-cons P y [] p (All-nil P)
 all_but_last P (r ∷ rs) x y a p = All-cons P r (rs ++ y ∷ []) (All-head P r (rs ++ x ∷ []) a) (all_but_last P rs x y (All-tail P r (rs ++ x ∷ []) a) p)
 
--- it touches: the one at hand grows
+-- the next run touches the one at hand, which grows
 pub merging_grows : (written : List Run) (current next : Run) (ours others ours' others' runs xs : List Run)
     → IsMerging written current ours others runs xs → IsFirstRun next ours others ours' others' → IsRunWithinLimits (run_over current next) → is_apart current next ≡ false
     → IsMerging written (run_over current next) ours' others' runs xs
@@ -203,7 +203,7 @@ pub next_if_others : (r : Run) (ours others : List Run) → AreApart ours → Ar
 next_if_others r [] others a b h = next_of_others r [] others a b (All-nil (λ x. begins_by r x ≡ true))
 next_if_others r (x ∷ ours) others a b h = next_of_others r (x ∷ ours) others a b (begins_rest r x ours (begins_back x r h) a)
 
--- the same, by the places that are reached
+-- which list has the next run, by the places that are reached
 pub next_own_at : (rs xs : List Run) (i j : ℕ) (x : Run) → i < length rs → x ≡ get_or rs i x → AreApart (drop i rs) → AreApart (drop j xs) → is_first_ours (drop i rs) (drop j xs) ≡ true
     → IsFirstRun x (drop i rs) (drop j xs) (drop (i + 1) rs) (drop j xs)
 next_own_at rs xs i j x l e a b h =
@@ -230,13 +230,13 @@ next_first ours others own own' theirs theirs' run a b (inr (first, here, stays)
     (subst (λ k. IsFirstRun run (drop own ours) (drop theirs others) (drop own ours) (drop k others)) (sym here.passed)
     (next_other_at ours others own theirs run here.reached here.is a b first))
 
--- it is within the limits
+-- the run of a step is within the limits
 pub next_limits : (ours others : List Run) (own own' theirs theirs' : ℕ) (run : Run) → All IsRunWithinLimits (drop own ours) → All IsRunWithinLimits others → IsFirstOf ours own own' others theirs theirs' run → IsRunWithinLimits run
 next_limits ours others own own' theirs theirs' run p q (inl (first, here, stays)) =
     All-head IsRunWithinLimits run (drop (own + 1) ours) (subst (All IsRunWithinLimits) (open_at ours own run here.reached here.is) p)
 next_limits ours others own own' theirs theirs' run p q (inr (first, here, stays)) = subst IsRunWithinLimits (sym here.is) (q theirs run here.reached)
 
--- and one place further on in one of the lists
+-- a step of a walk is one place further in one of the lists
 pub record IsOneFurther (ours : List Run) (own own' : ℕ) (others : List Run) (theirs theirs' : ℕ) : Type 0 where
   pub one : own' + theirs' ≡ own + theirs + 1
   pub behind : own ≤ own'
@@ -264,7 +264,7 @@ limits_left runs i j m p k e l =
     subst IsRunWithinLimits (get_or-drop i runs ((j + k) - i) e ∙ ap (λ n. get_or runs n e) shift ∙ sym (get_or-drop j runs k e))
     (p ((j + k) - i) e (omega (arith, m, l, length-drop i runs, length-drop j runs)))
 
--- the same, where the run that grows is given by its value
+-- the next run touches the one at hand, which grows; it is given by its value
 pub grown_merging : (written : List Run) (current next grown : Run) (ours others ours' others' runs xs : List Run)
     → IsMerging written current ours others runs xs → IsFirstRun next ours others ours' others' → is_apart current next ≡ false → grown ≡ run_over current next → IsRunWithinLimits grown
     → IsMerging written grown ours' others' runs xs

@@ -26,7 +26,7 @@ pub apart_whole : (rs : List Run) → AreApart rs → All (λ r. r.first ≤ r.l
 apart_whole [] a = λ k d h. absurd (omega (arith, h))
 apart_whole (r ∷ rs) a = All-cons (λ r. r.first ≤ r.last) r rs a.0 (apart_whole rs a.2)
 
--- those that end before a dot come first
+-- the runs that end before a dot come first
 pub partitioned : (d : Dot) (rs : List Run) → AreApart rs → IsPartitionedBy (is_below d) rs
 partitioned d [] a i j e l h t = absurd (omega (arith, h))
 partitioned d (r ∷ rs) a zero zero e l h t = t
@@ -34,7 +34,7 @@ partitioned d (r ∷ rs) a zero (suc j) e l h t = falls d r (get_or rs j e) (a.1
 partitioned d (r ∷ rs) a (suc i) zero e l h t = absurd (omega arith)
 partitioned d (r ∷ rs) a (suc i) (suc j) e l h t = partitioned d rs a.2 i j e (omega arith) (omega arith) t
 
--- so a dot is in the run at its place, or in none
+-- a dot is in the run at its place, or in none
 pub at_place : (d : Dot) (rs : List Run) (i : ℕ) (e : Run) → AreApart rs → i < length rs → AllWithin (λ r. is_below d r ≡ true) rs 0 i → is_below d (get_or rs i e) ≡ false
     → in_runs rs d ≡ in_run d (get_or rs i e)
 at_place d [] i e a l before at = absurd (omega arith)
@@ -54,7 +54,7 @@ at_no_place d rs before = list_any_none (in_run d) rs (λ k e h. below_misses d 
 falls_apart : (y r x : Run) → IsTrue (is_apart r x) → x.first ≤ x.last → is_apart x y ≡ true → is_apart r y ≡ true
 falls_apart y r x a w h = grind (arith, nat_tests)
 
--- those that lie before another run come first
+-- the runs that precede another run come first
 pub partitioned_apart : (y : Run) (rs : List Run) → AreApart rs → IsPartitionedBy (λ r. is_apart r y) rs
 partitioned_apart y [] a i j e l h t = absurd (omega (arith, h))
 partitioned_apart y (r ∷ rs) a zero zero e l h t = t

@@ -117,7 +117,7 @@ apart_join (x ∷ before) r rest w a p q b =
 before_rest : (r x : Run) (rest : List Run) → is_apart r x ≡ true → AreApart (x ∷ rest) → All (λ y. IsTrue (is_apart r y)) (x ∷ rest)
 before_rest r x rest h a = All-cons (λ y. IsTrue (is_apart r y)) x rest h (All-weaker (λ y. IsTrue (is_apart x y)) (λ y. IsTrue (is_apart r y)) (λ y p. apart_trans r x y h a.0 p) rest a.1)
 
--- so all of them are the runs of the union
+-- all of them are the runs of the union
 united_runs : (before : List Run) (united : Run) (rest : List Run) (run : Run) (runs : List Run) → IsUniting before united rest run runs → All (λ y. IsTrue (is_apart united y)) rest
     → IsRunsOf (before ++ united ∷ rest) (sets.union (set_of runs) (set_of (run ∷ [])))
 united_runs before united rest run runs u p = record {
@@ -138,7 +138,7 @@ pub uniting_ends_all : (before : List Run) (united : Run) (ys : List Run) (run :
 uniting_ends_all before united ys run runs u e =
     united_runs before united ys run runs u (subst (λ zs. All (λ y. IsTrue (is_apart united y)) zs) (sym e) (All-nil (λ y. IsTrue (is_apart united y))))
 
--- the same, by the places that are reached
+-- the run at hand is of one site, by the places that are reached
 pub uniting_site : (runs : List Run) (start at : ℕ) (united x run : Run) → IsUniting (take start runs) united (drop at runs) run runs → at < length runs → x ≡ get_or runs at x → is_apart united x ≡ false → united.site ≡ x.site
 uniting_site runs start at united x run u l e h =
     touching_site united x h (All-head (λ r. is_apart r united ≡ false) x (drop (at + 1) runs) (subst (λ ys. All (λ r. is_apart r united ≡ false) ys) (open_at runs at x l e) u.none_before))

@@ -19,13 +19,13 @@ pub record Known : Type 0 where
   pub dots : set.FinSet dot_cmp
   pub room : ℕ
 
--- it is stored as the pair of these
+-- a context is stored as the pair of its dots and its room
 abbrev pub known_code : Coded Known
 known_code =
     code_by (set.FinSet dot_cmp × ℕ) (coded× (set.code dot_code) coded_ℕ)
     (λ k. (k.dots, k.room)) (λ p. record { dots = p.0; room = p.1 }) (λ _. refl)
 
--- nothing is left that could refuse the union with other dots: not too many runs, and room for the runs of both
+-- the union with other dots can't fail: it has not too many runs, and there is room for the runs of both
 pub record IsPrepared (context : Known) (other : set.FinSet dot_cmp) : Type 0 where
   pub few : run_count (set.union context.dots other) ≤ MOST_RUNS
   pub room : run_count context.dots + run_count other ≤ context.room

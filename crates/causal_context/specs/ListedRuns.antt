@@ -11,7 +11,7 @@ pub record Listed : Type 0 where
   pub items : List Run
   pub room : ℕ
 
--- what holds of each list of runs: they are within the limits, and each lies before all that follow it
+-- the invariant of a list of runs: they are within the limits, and each precedes all that follow it
 pub record AreRuns (runs : List Run) : Type 0 where
   pub apart : AreApart runs
   pub limits : All IsRunWithinLimits runs
@@ -30,7 +30,7 @@ pub record TakesPlace (runs : List Run) (start : ℕ) (run : Run) (end : ℕ) : 
   pub within : end ≤ length runs
   pub valid : AreRuns (replaced runs start run end)
 
--- a run stands at a place that a walk over a list has reached, and the walk goes on behind it
+-- a run stands at a place that a walk over a list has reached, and the walk goes on after it
 pub record IsPassed (runs : List Run) (old new : ℕ) (run : Run) : Type 0 where
   pub reached : old < length runs
   pub is : run ≡ slice_index_or runs old run
@@ -41,7 +41,7 @@ pub record IsAtEnd (runs : List Run) (old new : ℕ) : Type 0 where
   pub reached : length runs ≤ old
   pub stays : new ≡ old
 
--- of what is left of two lists, each from a place on, a run begins first, and it alone is passed: it is of the first list, or of the second
+-- of the rest of two lists, each from a place on, the run that begins first, of either list, is the only one that is passed
 abbrev pub IsFirstOf : List Run → ℕ → ℕ → List Run → ℕ → ℕ → Run → Type 0
 IsFirstOf ours own own' others theirs theirs' run =
     ((is_first_ours (drop own ours) (drop theirs others) ≡ true) × IsPassed ours own own' run × (theirs' ≡ theirs))

@@ -1,4 +1,4 @@
--- How runs stand to each other in sorted lists: what the functions over lists of runs say of them.
+-- The order of runs in sorted lists.
 use Rattle.std.specs.Prelude.{◌≡◌, ◌≤◌, min, max, Bool, true, false, ◌&&◌, ◌||◌, nat_le, nat_lt, nat_eq, List, [], ◌∷◌}
 use Rattle.std.specs.List.{All, list_any, list_all}
 use Rattle.dots.specs.Values.{Dot}
@@ -12,11 +12,11 @@ is_below d r = nat_lt r.site d.site || (nat_eq r.site d.site && nat_lt r.last d.
 abbrev pub holds : Run → Run → Bool
 holds r x = in_run (first_dot r) x && nat_le r.last x.last
 
--- whether it is whole within one of them
+-- whether a run is whole within one of a list
 abbrev pub within : List Run → Run → Bool
 within rs r = list_any (holds r) rs
 
--- whether each of them is
+-- whether each run of a list is whole within one of another list
 abbrev pub all_within : List Run → List Run → Bool
 all_within rs xs = list_all (within rs) xs
 

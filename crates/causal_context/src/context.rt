@@ -14,9 +14,8 @@ use std::alloc::Global;
 use std::marker::Model;
 use std::slice::Iter;
 
-/// A finite set of dots, with at most 65,536 runs: the dots that a replica has ever heard of. With it the optimized
-/// observed-remove set needs no tombstones (RR-8083): a dot that is known and not live was removed. Equal sets have
-/// equal runs.
+/// A finite set of dots, with at most 65,536 runs: the dots that a replica knows. With it the optimized observed-remove set needs
+/// no tombstones (RR-8083): a dot that is known and not live was removed. Equal sets have equal runs.
 #[derive(Drop)]
 pub struct Context {
     runs: RunList,
@@ -38,7 +37,7 @@ impl Model for Context {
 }
 
 impl Context {
-    /// The empty set. It takes no memory.
+    /// The empty set. Takes no memory.
     pub fn new(alloc: Global) -> Context
         ensures { result.dots ≡ set.empty }
     {
@@ -47,7 +46,7 @@ impl Context {
         }
     }
 
-    /// Whether the dot is in. It takes no memory, like all that only reads and has no fault.
+    /// Whether the dot is in. Takes no memory, like every function that only reads and can't fail.
     pub fn contains(&self, dot: Dot) -> bool
         ensures { result ≡ set.contains self.now.dots dot }
     {
@@ -72,7 +71,7 @@ impl Context {
         }
     }
 
-    /// How many runs the dots make. Each dot is within the limits of sites and counts.
+    /// The number of runs of the dots. Each dot is within the limits of sites and counts.
     pub fn runs(&self) -> usize
         ensures value { result ≡ run_count self.now.dots }
         ensures limit { result ≤ MOST_RUNS }
@@ -99,8 +98,8 @@ impl Context {
         self.as_slice().iter()
     }
 
-    /// Adds one dot. No fault changes the dots. 1 `RunsFull`, exactly where there would be more than 65,536 runs;
-    /// 2 `Memory`, which a dot that is in never wants, nor one that comes where there is room for one more run.
+    /// Adds one dot. A fault leaves the dots as they are. Errors, in order: 1 `RunsFull`, exactly where there would be more than
+    /// 65,536 runs; 2 `Memory`, never for a dot that is in, nor if there is room for one more run.
     pub fn insert(&mut self, dot: Dot) -> Result<(), ContextFault>
         ensures ok { OnOk result (self.new.dots ≡ set.insert self.old.dots dot) }
         ensures full { (result ≡ Err ContextFault.RunsFull)
@@ -118,9 +117,9 @@ impl Context {
         self.unite(run)
     }
 
-    /// Adds the dots of a site from a first count to a last; 1 ≤ first ≤ last ≤ 2^40. No fault changes the dots. 1 `RunsFull`,
-    /// exactly where there would be more than 65,536 runs; 2 `Memory`, which is never wanted where there are no more runs than before,
-    /// nor where there is room for one more run.
+    /// Adds the dots of a site from a first count to a last; 1 ≤ first ≤ last ≤ 2^40. A fault leaves the dots as they are. Errors,
+    /// in order: 1 `RunsFull`, exactly where there would be more than 65,536 runs; 2 `Memory`, never if there are no more runs than
+    /// before, or if there is room for one more run.
     pub fn insert_run(&mut self, site: SiteId, first: u64, last: u64) -> Result<(), ContextFault>
         requires least { 1 ≤ first }
         requires ordered { first ≤ last }
@@ -138,8 +137,8 @@ impl Context {
         self.unite(Run { site, first, last })
     }
 
-    /// Makes room for the dots of another context, which `absorb` then adds. It leaves the dots as they are.
-    /// 1 `RunsFull`, exactly where the union has more than 65,536 runs; 2 `Memory`.
+    /// Makes room for the dots of another context, which `absorb` then adds. Leaves the dots as they are. Errors, in order: 1
+    /// `RunsFull`, exactly where the union has more than 65,536 runs; 2 `Memory`.
     pub fn prepare(&mut self, other: &Context) -> Result<(), ContextFault>
         ensures ready { OnOk result (IsPrepared self.new other.now.dots) }
         ensures full { (result ≡ Err ContextFault.RunsFull)
@@ -165,7 +164,7 @@ impl Context {
             && self.runs() + other.runs() <= self.runs.room()
     }
 
-    /// Adds the dots of another context that was prepared. It takes no memory and can't fail.
+    /// Adds the dots of another context that was prepared. Takes no memory and can't fail.
     pub fn absorb(&mut self, other: &Context)
         requires { IsPrepared self.old other.now.dots }
         ensures dots { self.new.dots ≡ set.union self.old.dots other.now.dots }
@@ -174,8 +173,8 @@ impl Context {
         self.runs.absorb(&other.runs);
     }
 
-    /// Adds the dots of another context. No fault changes the dots. 1 `RunsFull`, exactly where the union has more
-    /// than 65,536 runs; 2 `Memory`.
+    /// Adds the dots of another context. A fault leaves the dots as they are. Errors, in order: 1 `RunsFull`, exactly where the
+    /// union has more than 65,536 runs; 2 `Memory`.
     pub fn join(&mut self, other: &Context) -> Result<(), ContextFault>
         ensures ok { OnOk result (self.new.dots ≡ set.union self.old.dots other.now.dots) }
         ensures full { (result ≡ Err ContextFault.RunsFull)
@@ -188,7 +187,7 @@ impl Context {
         Ok(())
     }
 
-    /// Another context with the same dots. The only fault is `Memory`.
+    /// Returns a copy. Fails only when out of memory.
     pub fn copy(&self) -> Result<Context, ContextFault>
         ensures ok { IfOk result (λ copy. copy.dots ≡ self.now.dots) }
         ensures err { IfErr result (λ fault. fault ≡ ContextFault.Memory) }
@@ -199,8 +198,8 @@ impl Context {
         }
     }
 
-    /// How many runs the dots of both contexts and one more dot make. The count may be one past the greatest of a
-    /// dot, 2^40 + 1: what a site would have that used up its counts. It takes no memory.
+    /// The number of runs of the dots of both contexts and one more dot. The count may be one past the greatest of a dot, 2^40 + 1,
+    /// as of a site that has used up its counts. Takes no memory.
     pub fn runs_with(&self, other: &Context, site: SiteId, count: u64) -> u64
         requires least { 1 ≤ count }
         requires most { count ≤ MOST_COUNT + 1 }

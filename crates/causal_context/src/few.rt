@@ -1,5 +1,5 @@
-//! Few runs united with many: each of the few is searched for, and the many aren't walked. Which way is taken is a matter
-//! of cost alone: both come to the same.
+//! Unites few runs with many: each of the few is searched for, and the many aren't walked. Both ways have the same
+//! result; only the cost differs.
 ghost use Rattle.std.specs.Prelude.{◌≡◌, ◌+◌, ◌≤◌};
 ghost use Rattle.std.specs.FinSet as set;
 ghost use Rattle.dots.specs.DotSets.{run_count, set_of};
@@ -7,11 +7,11 @@ ghost use Rattle.dots.specs.DotSets.{run_count, set_of};
 use crate::Run;
 use crate::run_list::RunList;
 
-// So many runs are few: to shift the runs behind each of them costs less than to walk all.
+// The greatest number of runs that count as few: to shift the runs after each of them costs less than to walk all.
 const FEW_RUNS: usize = 16;
 
 impl RunList {
-    // Whether others are few, by themselves or beside these, so that to search for each costs less than to walk all.
+    // Whether others are few, in number or relative to these, so that to search for each costs less than to walk all.
     pub(crate) fn are_few(&self, other: &RunList) -> bool {
         other.len() <= FEW_RUNS || other.len() <= self.len() / FEW_RUNS
     }
@@ -35,13 +35,14 @@ impl RunList {
         outside
     }
 
-    // Whether others are few enough to be put in one by one: so few by themselves, or few beside these while all but so
-    // few lie within these. One that lies within shifts nothing.
+    // Whether to search for each of the others instead of a walk: they are at most `FEW_RUNS`, or few relative to these
+    // with at most `FEW_RUNS` that don't lie within these. A run that lies within shifts nothing.
     pub(crate) fn are_searched(&self, other: &RunList) -> bool {
         other.len() <= FEW_RUNS || self.are_few(other) && self.count_outside(other) <= FEW_RUNS
     }
 
-    // How many runs the union with others has. Others that don't touch each other add what each adds alone.
+    // The number of runs of the union with others. Each of the others that don't touch each other adds what it adds
+    // alone.
     pub(crate) fn searched_count(&self, other: &RunList) -> usize
         ensures value { result
             ≡ run_count (set.union (set_of self.now.items) (set_of other.now.items)) }
@@ -57,7 +58,7 @@ impl RunList {
         count
     }
 
-    // Unites them with others in room that is there. It takes no memory.
+    // Unites them with others in room that is there. Takes no memory.
     pub(crate) fn absorb_searched(&mut self, other: &RunList)
         requires { run_count (set_of self.old.items) + run_count (set_of other.now.items)
             ≤ self.old.room }

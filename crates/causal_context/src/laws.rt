@@ -8,7 +8,7 @@ ghost use Rattle.dots.specs.Orders.{dot_cmp};
 ghost use Rattle.general_lemmas.specs.Joins.{IsJoin};
 ghost use Rattle.dots.specs.DotSets.{IsRunsOf, Run, first_dot, last_dot, next_dot, run_count};
 
-/// Contexts are joined in any order: a join is the union. Each two agree.
+/// Join of contexts is the union: commutative, associative and idempotent. Any two contexts agree.
 pub fn contexts_are_joined()
     ensures { IsJoin {T = set.FinSet dot_cmp} (λ _ _. Unit {0}) set.union }
 {}
@@ -27,8 +27,8 @@ pub fn covers_by_subset()
         → IsTrue (set.is_subset a b) ↔ (set.union a b ≡ b) }
 {}
 
-/// A set of dots has one list of runs, so that equal contexts have equal slices, and its length is how many runs the
-/// set has.
+/// A set of dots has one list of runs, so that equal contexts have equal slices; the list's length is the number of
+/// runs of the set.
 pub fn has_one_list_of_runs()
     ensures some { (dots : set.FinSet dot_cmp) → (a : List Run) × IsRunsOf a dots }
     ensures unique { (a b : List Run) (dots : set.FinSet dot_cmp) → IsRunsOf a dots

@@ -1,8 +1,8 @@
-//! Causal contexts: finite sets of dots, each kept as one sorted list of its runs.
+//! Causal contexts: finite sets of dots, each stored as one sorted list of its runs.
 //!
-//! A context says which dots a replica has ever heard of, so that a removed dot needs no tombstone (the optimized
-//! observed-remove set of RR-8083), and that changes may come in any order. Contracts see the set alone, and how
-//! many runs there is room for.
+//! A context holds the dots that a replica knows, so that a removed dot needs no tombstone (the optimized
+//! observed-remove set of RR-8083), and that changes may arrive in any order. Contracts see only the set, and the
+//! number of runs for which there is room.
 #![tactic(auto)]
 
 mod context;

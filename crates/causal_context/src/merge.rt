@@ -10,7 +10,7 @@ use crate::Run;
 use crate::run_list::RunList;
 
 impl RunList {
-    // How many runs the union with others has. Few others are searched for, and for more both are walked once.
+    // The number of runs of the union with others. Few others are searched for; for more, both are walked once.
     pub(crate) fn united_count(&self, other: &RunList) -> usize
         ensures value { result
             ≡ run_count (set.union (set_of self.now.items) (set_of other.now.items)) }
@@ -49,8 +49,8 @@ impl RunList {
         count
     }
 
-    // Unites them with others in room that is there. It takes no memory. Few others that aren't within these are searched for, and
-    // for more both are walked once.
+    // Unites the runs with others in room that is there. Takes no memory. Few others that aren't within these are searched for;
+    // for more, both are walked once.
     pub(crate) fn absorb(&mut self, other: &RunList)
         requires { run_count (set_of self.old.items) + run_count (set_of other.now.items)
             ≤ self.old.room }
@@ -65,7 +65,7 @@ impl RunList {
         self.absorb_walked(other);
     }
 
-    // Unites them with others in room that is there. Walks both once.
+    // Unites the runs with others in room that is there. Walks both once.
     fn absorb_walked(&mut self, other: &RunList)
         requires { run_count (set_of self.old.items) + run_count (set_of other.now.items)
             ≤ self.old.room }
@@ -113,8 +113,8 @@ fn next_run(ours: &[Run], own: &mut usize, others: &[Run], theirs: &mut usize) -
     }
 }
 
-// Unites runs with others in place: the first places are free, as many as there are others. Answers how many runs the union
-// has; they stand first. Walks both once.
+// Unites runs with others in place: as many first places are free as there are others. Returns the number of runs of the union;
+// they stand first. Walks both once.
 fn merge(places: &mut [Run], other: &RunList) -> usize
     requires { ArePlaces places.old other.now.items }
     ensures within { result ≤ length places.new }

@@ -16,7 +16,7 @@ pub struct Run {
     /// The first of its counts.
     pub first: u64,
 
-    /// The last.
+    /// The last of its counts.
     pub last: u64,
 }
 

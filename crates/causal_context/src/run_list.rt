@@ -7,8 +7,7 @@ use dots::Memory;
 use std::alloc::Global;
 use std::marker::Model;
 
-// Runs within the limits, each before all that follow it: the longest runs of a set of dots. How many there may be is said by
-// its users.
+// Runs within the limits, each before all that follow it: the longest runs of a set of dots. Its callers limit their number.
 #[derive(Drop)]
 pub(crate) struct RunList {
     pub(crate) runs: Vec<Run>,
@@ -26,7 +25,7 @@ impl Model for RunList {
 }
 
 impl RunList {
-    // No runs. It takes no memory.
+    // No runs. Takes no memory.
     pub(crate) fn new(alloc: Global) -> RunList
         ensures { result.items ≡ [] }
     {
@@ -35,7 +34,7 @@ impl RunList {
         }
     }
 
-    // The runs, in their order.
+    // The runs, in order.
     pub(crate) fn as_slice(&self) -> &[Run]
         ensures value { result.now ≡ self.now.items }
         ensures runs { AreRuns result.now }
@@ -43,7 +42,7 @@ impl RunList {
         self.runs.as_slice()
     }
 
-    // How many there are.
+    // The number of runs.
     pub(crate) fn len(&self) -> usize
         ensures value { result ≡ length self.now.items }
         ensures counted { result ≡ run_count (set_of self.now.items) }
@@ -52,14 +51,14 @@ impl RunList {
         self.as_slice().len()
     }
 
-    // How many there is room for.
+    // The number of runs for which there is room.
     pub(crate) fn room(&self) -> usize
         ensures { result ≡ self.now.room }
     {
         self.runs.capacity()
     }
 
-    // Makes room for so many more. The one fault is want of memory.
+    // Makes room for `more` more runs. Fails only when out of memory.
     pub(crate) fn reserve(&mut self, more: usize) -> Result<(), Memory>
         ensures kept { self.new.items ≡ self.old.items }
         ensures made { OnOk result
@@ -74,7 +73,7 @@ impl RunList {
         Ok(())
     }
 
-    // The same runs once more. The one fault is want of memory.
+    // Returns a copy. Fails only when out of memory.
     pub(crate) fn copy(&self) -> Result<RunList, Memory>
         ensures { IfOk result (λ copy. copy.items ≡ self.now.items) }
     {

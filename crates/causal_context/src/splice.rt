@@ -7,7 +7,8 @@ use crate::Run;
 use crate::run_list::RunList;
 use dots::Memory;
 
-// A run with all that it touches, and the places of these: from the first to before the last.
+// A run united with all that it touches, and the places of these: from the first to before the
+// last.
 #[derive(Clone, Copy)]
 pub(crate) struct United {
     pub(crate) run: Run,
@@ -16,7 +17,7 @@ pub(crate) struct United {
 }
 
 impl RunList {
-    // What a run makes with all those that it touches.
+    // A run united with all that it touches.
     pub(crate) fn unite(&self, run: Run) -> United
         ensures place { TakesPlace self.now.items result.start result.run result.end }
         ensures united { IsRunsOf (replaced self.now.items result.start result.run result.end)
@@ -47,7 +48,7 @@ impl RunList {
         }
     }
 
-    // How many runs there are with one more, which makes one with all those that it touches.
+    // The number of runs after one more, which is united with all that it touches.
     pub(crate) fn count_with(&self, run: Run) -> usize
         ensures value { result
             ≡ run_count (set.union (set_of self.now.items) (set_of (run ∷ []))) }
@@ -58,7 +59,7 @@ impl RunList {
         start + 1 + behind
     }
 
-    // Puts a run in the place of those that it touches. The one fault is want of memory.
+    // Replaces the runs that a run touches by that run. Fails only when out of memory.
     pub(crate) fn replace(&mut self, united: United) -> Result<(), Memory>
         requires { TakesPlace self.old.items united.start united.run united.end }
         ensures ok { OnOk result (self.new.items
@@ -80,7 +81,7 @@ impl RunList {
         Ok(())
     }
 
-    // Unites them with one more in room that is there. It takes no memory.
+    // Unites the runs with one more in room that is there. Takes no memory.
     pub(crate) fn put(&mut self, run: Run)
         requires { run_count (set_of self.old.items) < self.old.room }
         ensures united { set_of self.new.items

@@ -3,7 +3,7 @@ ghost use Rattle.std.specs.Prelude.{◌≡◌};
 /// How the program ends.
 #[derive(Clone, Copy)]
 pub enum Exit {
-    /// The program has done all that was asked.
+    /// The program has done everything that was asked.
     Done,
     /// A device failed, the script was too long, or memory ran out.
     Failed,

@@ -1,7 +1,7 @@
 //! The words of the program `queue_sites`, and its command `script`.
 //!
-//! [`read_command_line`] reads and checks the words. [`run_input`] runs a script from standard input. Cases of files test both, since what
-//! they read and print is outside of what contracts say.
+//! [`read_command_line`] reads and checks the words. [`run_input`] runs a script from standard input. Cases in files test both,
+//! since contracts don't cover what they read and print.
 #![tactic(auto)]
 
 mod exit;

@@ -23,7 +23,7 @@ pub enum Request {
     Script(SiteCount, QueueList),
     /// To serve sites by these settings, each with these queues.
     Serve(ServerSettings, QueueList),
-    /// Nothing more: all output is printed, and the program ends so.
+    /// Nothing more: all output is printed, and the program ends with this exit.
     Done(Exit),
 }
 
@@ -74,17 +74,17 @@ enum CommandWords<'a> {
     Serve(ServeWords<'a>),
 }
 
-// Why there is no list of queues.
+// The error for a wrong list of queues.
 #[derive(Clone, Copy)]
 enum BadList {
     Refused,
     Memory,
 }
 
-/// Reads the command line, and checks its words in this order: the words by clap; the number of sites of a script or the address of a server;
-/// the list of queues; the file of the secret; user, secret and greeting. It prints the first error to standard error, and gives
-/// `Done(WrongWords)`; out of memory, and a file that can't be read, are `Done(Failed)`. It prints help and version to standard output.
-/// `Err`: that printing failed (the words are this project's own).
+/// Reads the command line, and checks its words in this order: the words by clap; the number of sites of a script or the address of
+/// a server; the list of queues; the file of the secret; user, secret and greeting. Prints the first error to standard error, and
+/// returns `Done(WrongWords)`; out of memory, and a file that can't be read, are `Done(Failed)`. Prints help and version to
+/// standard output. `Err`: that printing failed (the words are this project's own).
 pub fn read_command_line<R: Env + Files + AllocGlobal + Print + Eprint>(
     rt: &R,
 ) -> io::Result<Request> {
@@ -132,7 +132,7 @@ fn default_texts(alloc: Global) -> Result<Defaults, AllocError> {
     })
 }
 
-// Whether a word asks for the secret from a file, so that there is no word for the secret.
+// Whether a word names a file of the secret, so that the command line has no secret.
 fn names_secret_file(words: &[String]) -> bool {
     for word in words {
         match word.as_str() {
@@ -283,7 +283,7 @@ fn serve_options<'a>(alloc: Global, defaults: &'a Defaults) -> [Arg<'a>; 7] {
     ]
 }
 
-// The words of `serve` behind its options. Where the secret is in a file there is no word for it.
+// The words of `serve` after its options. If the secret is in a file the command line has no secret.
 fn serve_words_of<'a>(alloc: Global, is_in_file: bool) -> Result<Vec<Arg<'a>>, AllocError> {
     let mut args = Vec::new(alloc);
     args.push(sites(alloc, "How many sites there are, 1 to 8", 8))?;

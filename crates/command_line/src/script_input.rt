@@ -3,8 +3,8 @@ use replica::QueueList;
 use scripts::{ScriptFault, SiteCount, run_script};
 use std::io;
 
-/// Runs a script from standard input at this number of sites, each with these queues, prints its answers to standard output, and returns
-/// how many lines were not understood. Errors are those of `run_script`, in its order.
+/// Runs a script from standard input at this number of sites, each with these queues, prints its output to standard output, and
+/// returns how many lines were not understood. Errors are those of `run_script`, in its order.
 pub fn run_input<R: AllocGlobal + Print + Input>(
     rt: &R,
     sites: SiteCount,

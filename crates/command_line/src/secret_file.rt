@@ -3,10 +3,10 @@ use std::io::Read;
 use std::rt::Files;
 use std::{fs, io};
 
-// How many bytes of a file are looked at: a secret of 80, CR and LF, and one more.
+// The most bytes of a file that are read: a secret of 80, CR and LF, and one more.
 const LOOK: usize = 83;
 
-// How often a read is tried.
+// The most tries of a read.
 const READS: u32 = 1_000;
 
 // Why a file gives no secret.
@@ -18,7 +18,7 @@ pub(crate) enum SecretFault {
     NotText,
 }
 
-// Reads until the piece is full or the file has ended. How many bytes were read.
+// Reads until the piece is full or the file has ended. Returns the number of bytes read.
 fn read_front<F: Read>(file: &mut F, piece: &mut [u8]) -> Result<usize, io::Error> {
     let mut count = 0usize;
     for _ in 0..READS {

@@ -106,11 +106,11 @@ conditions_are k q =
 
 -- ---- totals
 
--- both totals of a key
+-- the totals of a key, completed and abandoned
 abbrev totals_in : Knowledge → Key → CallTotals
 totals_in k key = record { completed = site_total k key.site key.queue Completed; abandoned = site_total k key.site key.queue Abandoned }
 
--- where they aren't two zeros
+-- the totals of a key, unless they are two zeros
 counted_in : Knowledge → Key → Option CallTotals
 counted_in k key = if is_zero (totals_in k key) then None else Some (totals_in k key)
 

@@ -64,7 +64,7 @@ module _ (t : Members) (within : IsWithinLimits t) (nothing : t.known ≡ set.em
         with_none (Some Dead) h = h
         with_none (Some (Live m f)) h = h
 
-    -- it agrees with every other
+    -- an empty set agrees with every other
     pub agrees : SetsAgree s t
     agrees q = subst (ConditionsAgree (condition_of s q)) (sym (unknown q)) (agrees_with_none (condition_of s q))
 
@@ -74,7 +74,7 @@ module _ (t : Members) (within : IsWithinLimits t) (nothing : t.known ≡ set.em
     few_runs : MOST_RUNS < runs_joined s t → ⊥
     few_runs h = omega (arith, h, ap run_count union_is, limits.runs)
 
-    -- and so the join is not refused
+    -- the join of an empty set isn't refused
     pub not_refused : IsRefusedJoin s t (λ fault. done ≡ Err fault)
     not_refused = record {
       conflict = (λ h. (cc), λ h. absurd (no_conflict h));

@@ -18,7 +18,7 @@ holding_back (Some h) known = refl
 holding_back None true = refl
 holding_back None false = refl
 
--- the same conditions and the same known dots
+-- sets with the same conditions and the same known dots say the same
 pub says_the_same : (s t : Members) → ((q : Dot) → condition_of s q ≡ condition_of t q) → s.known ≡ t.known → SaysTheSame s t
 says_the_same s t conditions known = record {
   known = sym known;
@@ -26,7 +26,7 @@ says_the_same s t conditions known = record {
       sym (holding_back (map.get t.live q) (set.contains t.known q)) ∙ ap holding_in (sym (conditions q)) ∙ holding_back (map.get s.live q) (set.contains s.known q));
 }
 
--- and the other way
+-- sets that say the same have the same conditions
 pub same_conditions : (s t : Members) → SaysTheSame s t → (q : Dot) → condition_of s q ≡ condition_of t q
 same_conditions s t same q = λ i. condition_at (map.get (sym same.live i) q) (set.contains (sym same.known i) q)
 

@@ -8,8 +8,7 @@ use Rattle.member_orset.specs.Members as sets
 use Rattle.member_orset.specs.Members.{Members, members_code, condition_of}
 use Rattle.site_totals.specs.Tally.{Tally, tally_code}
 
--- what is seen of a delta: a set of members and totals, both with their rooms, and the set with its
--- retired places
+-- what contracts see of a delta: a set of members and totals, both with their room, and the set with its retired places
 pub record DeltaState : Type 0 where
   pub members : Members
   pub totals : Tally
@@ -18,7 +17,7 @@ pub record DeltaState : Type 0 where
 abbrev pub delta_code : Coded DeltaState
 delta_code = code_by (Members × Tally) (coded× members_code tally_code) (λ d. (d.members, d.totals)) (λ p. record { members = p.0; totals = p.1 }) (λ _. refl)
 
--- delta `d` says nothing: it has no condition of a dot, no known dot and no total
+-- delta `d` is empty: it has no condition of a dot, no known dot and no total
 pub record IsEmpty (d : DeltaState) : Type 0 where
   pub conditions : (dot : Dot) → condition_of d.members dot ≡ None
   pub known : d.members.known ≡ set.empty
@@ -31,8 +30,7 @@ pub record IsSame (d e : DeltaState) : Type 0 where
   pub known : d.members.known ≡ e.members.known
   pub totals : d.totals.entries ≡ e.totals.entries
 
--- from `old` to `new` a delta says the same as before, with the same ids and as many retired
--- places; of its rooms nothing is said
+-- from `old` to `new` a delta says the same as before, with the same ids and as many retired places; its room may differ
 pub record IsUnchanged (old new : DeltaState) : Type 0 where
   pub members : sets.IsUnchanged old.members new.members
   pub totals : new.totals.entries ≡ old.totals.entries

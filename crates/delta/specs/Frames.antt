@@ -1,4 +1,4 @@
--- What contracts say of a frame.
+-- What contracts see of a frame.
 use Rattle.std.specs.Prelude.{ℕ, ◌≡◌, ◌<◌, Some}
 use Rattle.std.specs.FinMap as map
 use Rattle.dots.specs.declared.limits.TheConstants.{QUEUES}
@@ -17,8 +17,8 @@ pub record IsSameFrame (x y : Frame) : Type 0 where
   pub number : x.number ≡ y.number
   pub delta : IsSame x.delta y.delta
 
--- `frame` is within the ranges of the format: its number is from 1 to 2^40, and each live dot is of
--- a queue below 256; all else is so for every frame, by the types of its parts
+-- `frame` is within the ranges of the format: its number is from 1 to 2^40, and each live dot is of a queue below
+-- 256; the types of its parts ensure all other ranges
 pub record IsInRanges (frame : Frame) : Type 0 where
   pub number : IsCount frame.number
   pub queues : (dot : Dot) (held : Holding) → map.get frame.delta.members.live dot ≡ Some held → held.0.queue < QUEUES

@@ -1,4 +1,4 @@
--- The join of two deltas: when there is one, and what it is.
+-- The join of two deltas: when it exists, and its state.
 use Rattle.std.specs.Prelude.{◌≡◌, ◌≢◌, Result, Ok, Err}
 use Rattle.std.specs.FinSet as set
 use Rattle.operations.specs.Totals.{join_of}
@@ -22,8 +22,8 @@ pub record IsJoinOf (d e joint : DeltaState) : Type 0 where
   pub members : sets.IsJoinOf d.members e.members joint.members
   pub totals : joint.totals.entries ≡ join_of d.totals.entries e.totals.entries
 
--- nothing is left that could refuse the join of `e` into `d`: the members of `d` were prepared for
--- it, if `e` knows a dot at all, and there is room for its totals
+-- the join of `e` into `d` can't fail: the members of `d` were prepared for it, if `e` knows a dot at
+-- all, and there is room for its totals
 pub record IsPrepared (d e : DeltaState) : Type 0 where
   pub members : e.members.known ≢ set.empty → sets.IsPrepared d.members e.members
   pub totals : HasRoomFor d.totals e.totals.entries
@@ -32,7 +32,7 @@ pub record IsPrepared (d e : DeltaState) : Type 0 where
 abbrev pub IsRefusedJoin : DeltaState → DeltaState → (JoinFault → Type 0) → Type 0
 IsRefusedJoin d e IsRefused = refusals.IsRefusedJoin d.members e.members IsRefused
 
--- a join was refused for the cause `fault`, and the delta that was handed in came back
+-- a join was refused for the cause `fault`, and returned the other delta
 abbrev pub IsRefusedFor : Result (Unit {0}) (JoinFault × DeltaState) → JoinFault → Type 0
 IsRefusedFor (Ok u) fault = ⊥
 IsRefusedFor (Err refused) fault = refused.0 ≡ fault

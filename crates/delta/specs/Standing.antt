@@ -14,8 +14,7 @@ use Rattle.delta.specs.DeltaStates.{DeltaState}
 abbrev pub IsDeltaOf : DeltaState → Knowledge → Type 0
 IsDeltaOf d k = Represents (condition_of d.members) d.members.known d.totals.entries k
 
--- delta `d` is read as knowledge `k`: it shows the same dots, each with the same member and fields,
--- and the same totals
+-- delta `d` shows the same as knowledge `k`: the same dots, each with the same member and fields, and the same totals
 pub record IsReadAs (d : DeltaState) (k : Knowledge) : Type 0 where
   pub dots : ShowAlike (dot_view_of d.members) (dot_view k)
   pub totals : (site queue : ℕ) (calls : Calls) → number_of calls (totals_of d.totals.entries site queue) ≡ site_total k site queue calls

@@ -15,9 +15,9 @@ use site_totals::Totals;
 use std::alloc::Global;
 use std::marker::Model;
 
-/// A delta: a set of members, and totals. It is what a site keeps of all that it knows, and what it sends to others, and it
-/// stands for the operations that made it. Deltas are joined in any order and as often as may be (RR-7506: states form a join
-/// semilattice). The limits are those of its parts.
+/// A delta: a set of members, and totals. A site keeps its state as a delta, and sends deltas to others; a delta stands for the
+/// operations that made it. Join is commutative, associative and idempotent (RR-7506: states form a join semilattice). The limits
+/// are those of its parts.
 #[derive(Drop)]
 pub struct Delta {
     members: MemberSet,
@@ -39,7 +39,7 @@ impl Model for Delta {
 }
 
 impl Delta {
-    /// The delta of nothing. It takes no memory.
+    /// The empty delta. Takes no memory.
     pub fn empty(alloc: Global) -> Delta
         ensures empty { IsEmpty result }
         ensures spent { result.members.spent ≡ set.empty }
@@ -49,7 +49,7 @@ impl Delta {
         Delta::of(MemberSet::new(alloc), Totals::new(alloc))
     }
 
-    /// The delta of a set of members and totals. It takes no memory.
+    /// The delta of a set of members and totals. Takes no memory.
     pub fn of(members: MemberSet, totals: Totals) -> Delta
         ensures members { result.members ≡ members }
         ensures totals { result.totals ≡ totals }
@@ -59,7 +59,7 @@ impl Delta {
         Delta { members, totals }
     }
 
-    /// Its parts. It takes no memory.
+    /// Its parts. Takes no memory.
     pub fn into_parts(self) -> (MemberSet, Totals)
         ensures members { result.0 ≡ self.members }
         ensures totals { result.1 ≡ self.totals }
@@ -67,10 +67,10 @@ impl Delta {
         (self.members, self.totals)
     }
 
-    /// Drops it, which gives back its memory.
+    /// Drops it, which frees its memory.
     pub fn discard(self) {}
 
-    /// Its set of members. It takes no memory, like all that only reads and has no fault.
+    /// Its set of members. Takes no memory, like every function that only reads and can't fail.
     pub fn members(&self) -> &MemberSet
         ensures value { result.now ≡ self.now.members }
         ensures limits { IsWithinLimits result.now }
@@ -85,7 +85,7 @@ impl Delta {
         &self.totals
     }
 
-    /// Whether nothing is known: no dot, and no total.
+    /// Whether it is empty: no known dot, and no total.
     pub fn is_empty(&self) -> bool
         ensures { IsTrue result ↔ IsEmpty self.now }
     {
@@ -107,9 +107,10 @@ impl Delta {
         self.members.agrees(&other.members)
     }
 
-    /// Makes room for what another delta says, which `absorb` then joins. It leaves what is said as it is. 1 `Conflict`, exactly
-    /// where `agrees` is false; 2 `CellsFull`, exactly where the join has more than 16,384 live dots; 3 `RunsFull`, exactly where
-    /// the known dots of both make more than 65,536 runs; 4 `Memory`. An empty part of the other costs nothing.
+    /// Makes room for another delta, which `absorb` then joins. The delta says the same as before. Errors, in order: 1
+    /// `Conflict`, exactly where `agrees` is false; 2 `CellsFull`, exactly where the join has more than 16,384 live dots; 3
+    /// `RunsFull`, exactly where the known dots of both make more than 65,536 runs; 4 `Memory`. An empty part of the other costs
+    /// nothing.
     pub fn prepare(&mut self, other: &Delta) -> Result<(), JoinFault>
         ensures ready { OnOk result (IsPrepared self.new other.now) }
         ensures refusals { IsRefusedJoin self.old other.now (λ fault. result ≡ Err fault) }
@@ -133,8 +134,8 @@ impl Delta {
             && has_prepared_totals(&self.totals, &other.totals)
     }
 
-    /// Joins what another delta says that was prepared: each dot has the join of its two conditions, and each total is the
-    /// greater of both. It takes no memory and can't fail. An empty part of the other costs nothing.
+    /// Joins another delta that was prepared: each dot has the join of its two conditions, and each total is the greater of both.
+    /// Takes no memory and can't fail. An empty part of the other costs nothing.
     pub fn absorb(&mut self, other: Delta)
         requires { IsPrepared self.old other }
         ensures joined { IsJoinOf self.old other self.new }
@@ -146,9 +147,9 @@ impl Delta {
         absorb_totals(&mut self.totals, &totals);
     }
 
-    /// Joins what another delta says: each dot has the join of its two conditions, and each total is the greater of both. A
-    /// refused delta comes back as it was, and no fault changes what this one says. The faults are those of `prepare`, in its
-    /// order, and so is the cost of an empty part.
+    /// Joins another delta: each dot has the join of its two conditions, and each total is the greater of both. A fault returns
+    /// the other delta unchanged, and leaves what this one says. Errors as of `prepare`, in its order. An empty part of the other
+    /// costs nothing.
     pub fn join(&mut self, other: Delta) -> Result<(), (JoinFault, Delta)>
         ensures joined { OnOk result (IsJoinOf self.old other self.new) }
         ensures refusals { IsRefusedJoin self.old other (λ fault. IsRefusedFor result fault) }
@@ -164,7 +165,7 @@ impl Delta {
         Ok(())
     }
 
-    /// Another delta that says the same. The one fault is want of memory.
+    /// A copy that says the same. Fails only when out of memory.
     pub fn copy(&self) -> Result<Delta, Memory>
         ensures same { IfOk result (λ copy. IsSame self.now copy) }
         ensures spent { IfOk result (λ copy. copy.members.spent ≡ set.empty) }

@@ -1,5 +1,5 @@
-//! Deltas: what a site keeps, and what it sends to others. A delta is a set of members and totals, and deltas are joined in
-//! any order and as often as may be (RR-7506: states form a join semilattice).
+//! Deltas: a site's state, and what it sends to others. A delta is a set of members and totals; join is commutative,
+//! associative and idempotent (RR-7506: states form a join semilattice).
 #![tactic(auto)]
 
 mod delta;

@@ -1,4 +1,4 @@
-//! The parts of deltas, where one of them says nothing: then nothing is walked, whatever the other has.
+//! Joins the parts of deltas. If one of them is empty, nothing is walked, whatever the other has.
 ghost use Rattle.std.specs.Prelude.{◌≡◌, ◌≢◌, ◌↔◌, ◌≤◌, Err, IsOk, IsTrue, OnOk};
 ghost use Rattle.std.specs.FinSet as set;
 ghost use Rattle.operations.specs.Totals.{join_of};
@@ -12,7 +12,7 @@ use causal_context::Context;
 use member_orset::MemberSet;
 use site_totals::Totals;
 
-// Whether no dot is known. It looks at no run.
+// Whether no dot is known. Reads no run.
 fn has_no_runs(context: &Context) -> bool
     ensures { IsTrue result ↔ (context.now.dots ≡ set.empty) }
 {
@@ -26,7 +26,7 @@ pub(crate) fn knows_nothing(members: &MemberSet) -> bool
     has_no_runs(members.context())
 }
 
-// Makes room for what another set says, if it says anything.
+// Makes room for another set, if it isn't empty.
 pub(crate) fn prepare_members(members: &mut MemberSet, other: &MemberSet) -> Result<(), JoinFault>
     requires limits { IsWithinLimits members.old }
     requires others { IsWithinLimits other.now }
@@ -43,14 +43,14 @@ pub(crate) fn prepare_members(members: &mut MemberSet, other: &MemberSet) -> Res
     members.prepare(other)
 }
 
-// Whether another set was prepared, or says nothing.
+// Whether another set was prepared, or is empty.
 pub(crate) fn has_prepared_members(members: &MemberSet, other: &MemberSet) -> bool
     ensures { IsTrue result ↔ (other.now.known ≢ set.empty → IsPrepared members.now other.now) }
 {
     knows_nothing(other) || members.prepared(other)
 }
 
-// Joins what another set says that was prepared, or says nothing.
+// Joins another set that was prepared, or is empty.
 pub(crate) fn absorb_members(members: &mut MemberSet, other: MemberSet)
     requires prepared { other.known ≢ set.empty → IsPrepared members.old other }
     requires limits { IsWithinLimits members.old }
@@ -87,7 +87,7 @@ pub(crate) fn has_prepared_totals(totals: &Totals, other: &Totals) -> bool
     other.is_empty() || totals.prepared(other)
 }
 
-// Joins other totals that there is room for.
+// Joins other totals, for which there is room.
 pub(crate) fn absorb_totals(totals: &mut Totals, other: &Totals)
     requires { HasRoomFor totals.old other.now.entries }
     ensures { totals.new.entries ≡ join_of totals.old.entries other.now.entries }

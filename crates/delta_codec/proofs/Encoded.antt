@@ -72,7 +72,7 @@ frame_spelled frame runs bytes ranges are each few written spelled = record {
   version_is = refl;
 }
 
--- so does what was written at all
+-- the bytes that were written, if any, spell a frame within the ranges
 pub written_spells : {X E : Type 0} (result : Result X E) (bytes_of : X → List ℕ) (frame : Frame) (runs : List Run) → IsInRanges frame → IsRunsOf runs frame.delta.members.known → All IsRunWithinLimits runs → length runs ≤ MOST_RUNS → OnOk result (AreWritten frame.maker frame.delta) → IfOk result (λ x. bytes_of x ≡ frame_bytes (parts_with (heading_of frame) frame.delta runs)) → IfOk result (λ x. SpellsIn VERSION frame (bytes_of x))
 written_spells (Ok x) bytes_of frame runs ranges are each few written spelled = frame_spelled frame runs (bytes_of x) ranges are each few written spelled
 written_spells (Err fault) bytes_of frame runs ranges are each few written spelled = tt

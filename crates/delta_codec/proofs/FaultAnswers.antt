@@ -34,7 +34,7 @@ opening_fails bytes fault e =
       ]
     ]
 
--- where it is read, it stands there
+-- an opening that is read is at the front of the bytes
 opening_found : (bytes : List ℕ) (heading : Heading) (more : List ℕ) → IsBytes bytes → opening_in bytes ≡ Ok (heading, more) → HasOpening bytes
 unfolding opening_in opening_at
 opening_found bytes heading more fits e =

@@ -62,7 +62,7 @@ one_fault bytes f g all has also =
 pub frame_stays : (bytes more : List ℕ) (frame : Frame) (n : ℕ) → n ≤ length bytes → Spells frame (take n bytes) → Spells frame (take n (bytes ++ more))
 frame_stays bytes more frame n there spelled = subst (λ (x : List ℕ). Spells frame x) (sym (take-append-le n bytes more there)) spelled
 
--- it is the one frame that all of the bytes begin with
+-- a frame at the front of bytes is the only one that all of the bytes begin with
 pub front_same : (bytes more : List ℕ) (x y : Frame) (m n : ℕ) → m ≤ length bytes → n ≤ length (bytes ++ more) → Spells x (take m bytes) → Spells y (take n (bytes ++ more))
     → (m ≡ n) × IsSameFrame x y
 front_same bytes more x y m n here there s t =

@@ -74,7 +74,7 @@ flags_reads version = reads_good (flags_at version) (λ n. (n < 256) × ((nat_le
 
 -- ---- texts
 
--- a text of at least so many bytes
+-- a text of at least that number of bytes
 abbrev pub IsTextOf : ℕ → List ℕ → Type 0
 IsTextOf least text = IsText text × (least ≤ length text)
 

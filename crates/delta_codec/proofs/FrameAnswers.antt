@@ -12,7 +12,7 @@ use Rattle.delta_codec.proofs.PartLaws.{IsBytes, ok_is}
 
 -- ---- bytes
 
--- want of memory, or the fault that reading gives
+-- a result is out of memory, or the fault that reading gives
 pub fails_is : {B : Type 0} (fault : DecodeFault) (read : Result B DecodeFault) → Fails fault read → (fault ≡ Memory) ⊎ (read ≡ Err fault)
 fails_is Memory read h = inl refl
 fails_is Truncated read h = inr h

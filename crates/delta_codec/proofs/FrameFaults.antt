@@ -157,7 +157,7 @@ length_tells = tells_lacks length_at IsNumber4 number4 Truncated length_reads on
 
 -- ---- what stands behind it
 
--- what is kept of so many bytes
+-- what is kept of the bytes, and their number
 abbrev pub counted : List ℕ → Result (Kept × ℕ) DecodeFault
 counted content = kept_at content >>= λ kept. Ok (kept, 4 + length content)
 

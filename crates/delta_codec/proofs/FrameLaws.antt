@@ -146,7 +146,7 @@ no_cells = nil_from_length _ (sym (map.len-entries map.empty) ∙ map.len-empty 
 pub live_entries : (cells : List CellParts) → IsRising dot_cmp cells → map.entries (live_of cells) ≡ cells
 live_entries cells h = live_from map.empty [] cells no_cells h
 
--- and the totals the entries of what is counted
+-- the totals of a frame are the entries of its counts
 total_last : (m : Entries) (front : List TotalParts) (x : TotalParts) (rest : List TotalParts) → map.entries m ≡ front → IsRising key_cmp (front ++ x ∷ rest) → is_zero x.1 ≡ false → with_total m x ≡ map.insert m x.0 x.1
 total_last m front x rest e h some =
     let none : map.get m x.0 ≡ None = map.get-entries m x.0 ∙ ap (find key_cmp x.0) e ∙ find_last key_cmp keys_total front x.0 x.1 rest h in
@@ -240,7 +240,7 @@ lengths parts good =
     let cells = cells_length parts.version parts.cells (by_recursion (IsCell parts.version) parts.cells good.cells.listed.each) in
     (omega (arith, size), omega (arith, size, cells, good.runs.few, good.cells.listed.few, good.totals.few))
 
--- nor is a frame greater than the greatest of its parts make it
+-- a frame is at most as large as the greatest of its parts make it
 pub whole_length : (parts : FrameParts) → AreParts parts → length (frame_bytes parts) ≤ 7618588
 whole_length parts good =
     let size = content_size parts (length (flat_map cell_bytes parts.cells)) (length parts.totals) refl refl in

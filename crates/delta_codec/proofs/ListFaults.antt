@@ -102,7 +102,7 @@ regrouped : {A B D : Type 0} (r : Result A DecodeFault) (f : A → Result B Deco
 regrouped (Ok x) f g = refl
 regrouped (Err fault) f g = refl
 
--- so many elements, if they aren't too many
+-- that number of elements, if they aren't too many
 abbrev counted_at : {A K : Type 0} → Elements A K → ℕ → ℕ → List ℕ → Result (List A × List ℕ) DecodeFault
 counted_at e most n rest = let found : ℕ × List ℕ = (n, rest) in cond (nat_le n most) (Ok found) (Err TooLarge) >>= λ m. elements_at e m.0 None m.1
 

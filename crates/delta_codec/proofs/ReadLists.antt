@@ -49,7 +49,7 @@ unmade : {A B : Type 0} (f : A → B) (read : Read A) (fault : DecodeFault) → 
 unmade f (Ok x) fault h = absurd cc
 unmade f (Err e) fault h = let same : e ≡ fault = cc in ap Err same
 
--- the next element, of which something is made, is a fault or want of memory
+-- the next element, of which something is made, is a fault or out of memory
 pub ends_made : {A B K D : Type 0} (e : Elements A K) (f : A → B) (step : D → A → D) (d : D) (count i : ℕ) (last : Option K) (bytes : List ℕ) (fault : DecodeFault) (total : Read D) → i < count
     → Fails fault (made f (next_at e last bytes)) → made (fold step d) (elements_at e (count - i) last bytes) ≡ total → Fails fault total
 ends_made e f step d count i last bytes Truncated total lt h so_far = ends e step d count i last bytes Truncated total lt (unmade f _ Truncated h) so_far

@@ -30,7 +30,7 @@ kept_more : {A D : Type 0} (step : D → A → D) (d : D) (xs : List A) (x : A) 
 kept_more step d [] x = refl
 kept_more step d (y ∷ ys) x = kept_more step (step d y) ys x
 
--- these dots are those of so many runs, each behind the one before, of which this is the last
+-- the dots are those of a number of runs, each after the one before, the last of which is given
 pub record AreRead (last : Option Run) (dots : set.FinSet dot_cmp) (count : ℕ) : Type 0 where
   pub runs : List Run
   pub each : AllByRecursion IsRunWithinLimits runs
@@ -52,7 +52,7 @@ one_more last dots count run read good order = record {
   counted = omega (arith, length-append read.runs (run ∷ []), read.counted);
 }
 
--- so they are no more runs than were read
+-- the dots have no more runs than were read
 pub few_runs : (last : Option Run) (dots : set.FinSet dot_cmp) (count : ℕ) → AreRead last dots count → count ≤ MOST_RUNS → run_count dots ≤ MOST_RUNS
 few_runs last dots count read few =
     let same = run_count_runs read.runs (known_of read.runs) (record { apart = are_apart read.runs read.each read.chain; same = contains_known_of read.runs }) in

@@ -89,7 +89,7 @@ runs_within rs dots is are i d lt =
     let last = are (last_dot r) (is.same (last_dot r) ∙ any_in (in_run (last_dot r)) rs r here (last_in_run r ordered)) in
     record { site = first.site; least = first.count.0; ordered = ordered; most = last.count.1 }
 
--- and the dots of such runs are within theirs
+-- the dots of runs within limits are within theirs
 dot_of_run : (dot : Dot) (r : Run) → IsRunWithinLimits r → in_run dot r ≡ true → IsDot dot
 dot_of_run dot r is h =
     let n = numbers h in record { site = subst (λ s. s < 64) n.0 is.site; count = (omega (arith, is.least, n.1), omega (arith, is.most, n.2)) }

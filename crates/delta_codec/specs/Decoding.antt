@@ -1,4 +1,4 @@
--- What decoding answers.
+-- The result of decoding.
 use Rattle.std.specs.Prelude.{ℕ, ◌≡◌, ◌≢◌, ◌⊎◌, ◌↔◌, ◌<◌, ◌≤◌, List, ◌++◌, length, take, drop, Option, Some, None, Result, Ok, Err, IfErr, IfOk}
 use Rattle.std.specs.List.{All}
 use Rattle.std.specs.Result.{IsOkAnd}
@@ -11,7 +11,7 @@ use Rattle.delta_codec.specs.Faults.{HasFault, number4}
 use Rattle.delta_codec.specs.Frames.{Heading, IsHeading, IsVersion, Spells, opening_bytes}
 use Rattle.delta_codec.specs.Reading.{Kept}
 
--- this holds, or an allocation was refused
+-- a statement holds, or an allocation was refused
 abbrev pub UnlessMemory : {T : Type 0} → Result T DecodeFault → Type 0 → Type 0
 UnlessMemory result fact = (result ≡ Err Memory) ⊎ fact
 
@@ -30,21 +30,21 @@ pub record BeginsWithFrame (bytes : List ℕ) : Type 0 where
   pub there : len ≤ length bytes
   pub spelled : Spells frame (take len bytes)
 
--- they have a fault
+-- bytes have a fault
 pub record IsAtFault (bytes : List ℕ) : Type 0 where
   pub fault : DecodeFault
   pub has : HasFault bytes fault
 
--- A result is the frame that bytes begin with, and how many bytes it has: it is such a frame; each such frame is the result,
--- unless memory is refused.
+-- A result is the frame that bytes begin with, and how many bytes it has: it is such a frame; each such frame is the result, unless
+-- memory is refused.
 pub record IsFrontFrame (bytes : List ℕ) (result : Result (Frame × ℕ) DecodeFault) : Type 0 where
   pub all_there : IfOk result (λ x. x.1 ≤ length bytes)
   pub spelled : IfOk result (λ x. Spells x.0 (take x.1 bytes))
   pub found : (frame : Frame) (n : ℕ) → n ≤ length bytes → Spells frame (take n bytes)
       → UnlessMemory result (IsOkAnd result (λ x. IsSameFrame x.0 frame × (x.1 ≡ n)))
 
--- A frame has begun: a length within its limits, as many bytes behind it, and at the front of these the magic, a version that is read
--- and a heading.
+-- A frame has begun: a length within its limits, as many bytes after it, and at the front of these the magic, a version that is
+-- read and a heading.
 pub record HasOpening (bytes : List ℕ) : Type 0 where
   pub version : ℕ
   pub heading : Heading
@@ -59,14 +59,15 @@ pub record HasOpening (bytes : List ℕ) : Type 0 where
   pub spelled : bytes ≡ (number4 (length content) ++ content) ++ rest
 
 -- A result is the fault that bytes have: it is one of theirs, or memory was refused; theirs is the result, unless memory is
--- refused; where they are too short it is so told whatever memory there is; and memory is wanted only where a frame has begun.
+-- refused; where they are too short the result says so with or without memory; and it is out of memory only where a frame has
+-- begun.
 pub record IsFrontFault (bytes : List ℕ) (result : Result (Frame × ℕ) DecodeFault) : Type 0 where
   pub had : IfErr result (λ fault. (fault ≡ Memory) ⊎ HasFault bytes fault)
   pub told : (fault : DecodeFault) → HasFault bytes fault → UnlessMemory result (result ≡ Err fault)
   pub truncated : HasFault bytes Truncated → result ≡ Err Truncated
   pub memory : result ≡ Err Memory → HasOpening bytes
 
--- there is a value, of which this holds
+-- there is a value with this property
 abbrev pub IsSomeAnd : {T : Type 0} → Option T → (T → Type 0) → Type 0
 IsSomeAnd None P = ⊥
 IsSomeAnd (Some x) P = P x
@@ -78,21 +79,21 @@ pub record IsTaken (old new : List ℕ) (frame : Frame) : Type 0 where
   pub spelled : Spells frame (take len old)
   pub left : new ≡ drop len old
 
--- what is held then: the bytes behind the frame that was taken, or all
+-- the bytes held after a call: those after the frame that was taken, or all
 abbrev pub Leaves : List ℕ → Result (Option Frame) DecodeFault → List ℕ → Type 0
 Leaves old (Ok (Some frame)) new = IsTaken old new frame
 Leaves old (Ok None) new = new ≡ old
 Leaves old (Err fault) new = new ≡ old
 
--- What a splitter answers that held these bytes, and what it holds then. A frame that they begin with is taken, unless memory is
--- refused.
+-- The result of a splitter that held the bytes `old`, and what it holds then. A frame that they begin with is taken, unless memory
+-- is refused.
 pub record IsNextFrame (old : List ℕ) (result : Result (Option Frame) DecodeFault) (new : List ℕ) : Type 0 where
   pub leaves : Leaves old result new
   pub found : (frame : Frame) (n : ℕ) → n ≤ length old → Spells frame (take n old)
       → UnlessMemory result (IsOkAnd result (λ next. IsSomeAnd next (λ x. IsSameFrame x frame × (new ≡ drop n old))))
 
--- Which fault a splitter answers that held these bytes: none, exactly where they are no whole frame yet; or one that they have, or
--- memory was refused, and that only where a frame has begun; and one that they have is answered, unless memory is refused.
+-- The fault of a splitter that held the bytes `old`: none, exactly where they are no whole frame yet; or one that they have, or
+-- memory was refused, and that only where a frame has begun; and it returns a fault that they have, unless memory is refused.
 pub record IsNextFault (old : List ℕ) (result : Result (Option Frame) DecodeFault) : Type 0 where
   pub none : (result ≡ Ok None) ↔ HasFault old Truncated
   pub had : IfErr result (λ fault. (fault ≡ Memory) ⊎ (HasFault old fault × (fault ≢ Truncated)))

@@ -1,4 +1,4 @@
--- What is read of totals, seen without where it lies in memory, and where what is read stands.
+-- What contracts see of totals that are read, without their place in memory, and where a dot that is read belongs.
 use Rattle.std.specs.Prelude.{◌≡◌, Option, None, IsSome}
 use Rattle.std.specs.FinMap as map
 use Rattle.std.specs.declared.cmp.Ordering.TheVariants.{Less}
@@ -17,6 +17,6 @@ total_read total = (total.key, total.totals)
 abbrev pub kept_cell : map.FinMap dot_cmp Holding → CellParts → Dot × map.FinMap dot_cmp Holding
 kept_cell live cell = (cell.0, with_cell live cell)
 
--- a dot that may stand behind the last one lies behind all live ones
+-- a dot that may follow the last one lies after all live ones
 abbrev pub IsBehind : Option Dot → map.FinMap dot_cmp Holding → Type 0
 IsBehind last live = (q dot : Dot) → IsSome (map.get live q) → order_fault is_dot_before last dot ≡ None → dot_cmp q dot ≡ Less

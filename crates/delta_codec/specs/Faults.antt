@@ -1,4 +1,4 @@
--- Which fault bytes have: well-spelled parts stand at their front, and what must come next breaks the rule that gives the fault.
+-- Which fault bytes have: they begin with well-formed parts, and the next part breaks the rule that gives the fault.
 use Rattle.std.specs.Prelude.{ℕ, ◌≡◌, ◌≢◌, ◌≤◌, ◌<◌, ◌^◌, ◌⊎◌, Bool, true, false, List, [], ◌∷◌, ◌++◌, length, take, Option, None, IfSome, IsTrue, is_some, ◌/◌, ◌%◌, ◌==◌}
 use Rattle.std.specs.List.{flat_map, last_or, list_any}
 use Rattle.std.specs.Ordering.{is_lt}
@@ -17,7 +17,7 @@ use Rattle.delta_codec.specs.declared.limits.TheConstants.{LEAST_LENGTH, MOST_LE
 use Rattle.delta_codec.specs.Parts.{CellParts, IsCell, IsField, TotalParts, byte, cell_bytes, dot_bytes, field_bytes, label_bytes, list_bytes, most_flags, pause_bytes, penalty_bytes, run_bytes, stamp_bytes, text_bytes, total_bytes}
 use Rattle.delta_codec.specs.Frames.{AreCells, AreRuns, AreTotals, IsHeading, IsVersion, heading_bytes, magic}
 
--- a good part stands at the front of the bytes, and this holds of it and of what follows it
+-- a good part is at the front of the bytes, and the property holds of it and of the bytes after it
 pub record After {A : Type 0} (IsGood : A → Type 0) (spell : A → List ℕ) (Next : A → List ℕ → Type 0) (bytes : List ℕ) : Type 0 where
   pub value : A
   pub rest : List ℕ
@@ -25,7 +25,7 @@ pub record After {A : Type 0} (IsGood : A → Type 0) (spell : A → List ℕ) (
   pub spelled : bytes ≡ spell value ++ rest
   pub next : Next value rest
 
--- no good part stands at the front, and the fault is that of a missing one
+-- no good part is at the front, and the fault is that of a missing one
 pub record Lacks {A : Type 0} (IsGood : A → Type 0) (spell : A → List ℕ) (missing fault : DecodeFault) (bytes : List ℕ) : Type 0 where
   pub none : (value : A) (rest : List ℕ) → IsGood value → bytes ≢ spell value ++ rest
   pub fault_is : fault ≡ missing
@@ -40,7 +40,7 @@ TextFails least fault (len ∷ rest) =
     ⊎ ((least ≤ len) × (len ≤ TEXT_BYTES) × (length rest < len) × (fault ≡ BadRange))
     ⊎ ((least ≤ len) × (len ≤ TEXT_BYTES) × (len ≤ length rest) × IsTrue (list_any is_bad_byte (take len rest)) × (fault ≡ BadText))
 
--- The reason of what isn't a pause is at fault: its length is missing, or isn't 0.
+-- The reason without a pause is at fault: its length is missing, or isn't 0.
 abbrev pub NoReasonFails : DecodeFault → List ℕ → Type 0
 NoReasonFails fault [] = fault ≡ BadRange
 NoReasonFails fault (len ∷ rest) = ((TEXT_BYTES < len) × (fault ≡ BadText)) ⊎ ((0 < len) × (len ≤ TEXT_BYTES) × (fault ≡ BadRange))
@@ -84,15 +84,15 @@ IsFlags version flags = (1 ≤ flags) × (flags ≤ most_flags version)
 abbrev pub penalty_flag : ℕ → Bool
 penalty_flag flags = flags % 2 == 1
 
--- that the pause is
+-- whether flags say that the pause is set
 abbrev pub pause_flag : ℕ → Bool
 pause_flag flags = flags / 2 % 2 == 1
 
--- that the label is
+-- whether flags say that the label is set
 abbrev pub label_flag : ℕ → Bool
 label_flag flags = flags / 4 % 2 == 1
 
--- that the ring is
+-- whether flags say that the ring is set
 abbrev pub ring_flag : ℕ → Bool
 ring_flag flags = flags / 8 % 2 == 1
 
@@ -101,7 +101,7 @@ pub record IsFlagged {T : Type 0} (IsValue : T → Type 0) (flag : Bool) (field 
   pub set : is_some field ≡ flag
   pub value : IsField IsValue field
 
--- the fields behind their flags are at fault: the penalty, or the pause behind it, or the label behind both, or the ring behind these
+-- the fields after their flags are at fault: the penalty, or the pause after it, or the label after both, or the ring after these
 abbrev pub FieldsFail : DecodeFault → ℕ → List ℕ → Type 0
 FieldsFail fault flags bytes =
     FieldFails PenaltyFails fault (penalty_flag flags) bytes
@@ -123,12 +123,12 @@ pub record QueuedDot : Type 0 where
 abbrev pub place_bytes : QueuedDot → List ℕ
 place_bytes place = dot_bytes place.dot ++ to_be_bytes w16 place.queue
 
--- both are within their limits
+-- a dot and a queue are within their limits
 pub record IsPlace (place : QueuedDot) : Type 0 where
   pub dot : IsDot place.dot
   pub queue : place.queue < QUEUES
 
--- what a cell of a version has is at fault: dot or queue, or the interface, or the flags, or a field
+-- a cell of a version is at fault: dot or queue, or the interface, or the flags, or a field
 abbrev pub CellFails : ℕ → DecodeFault → List ℕ → Type 0
 CellFails version fault bytes =
     Lacks IsPlace place_bytes BadRange fault bytes
@@ -170,7 +170,7 @@ TotalFails fault before bytes =
     Lacks (λ total. IsTotal total.0 total.1) total_bytes BadRange fault bytes
     ⊎ After (λ total. IsTotal total.0 total.1) total_bytes (λ total _. ¬ FollowsLast is_total_before before total × (fault ≡ BadOrder)) bytes
 
--- Of `count` elements some stand there in order, and the next is at fault.
+-- Of `count` elements a prefix is good and in order, and the next is at fault.
 pub record ElementsFail {A : Type 0} (IsGood : List A → Type 0) (spell : A → List ℕ) (NextFails : List A → List ℕ → Type 0) (count : ℕ) (bytes : List ℕ) : Type 0 where
   pub before : List A
   pub rest : List ℕ
@@ -183,7 +183,7 @@ pub record ElementsFail {A : Type 0} (IsGood : List A → Type 0) (spell : A →
 abbrev pub IsNumber4 : ℕ → Type 0
 IsNumber4 n = n < 2 ^ 32
 
--- they are the number's, the greatest first
+-- four bytes are a number's, the greatest first
 abbrev pub number4 : ℕ → List ℕ
 number4 = to_be_bytes w32
 
@@ -209,7 +209,8 @@ TotalsFail = ListFails AreTotals total_bytes MOST_TOTALS TotalFails
 
 -- ---- the whole
 
--- What stands behind the length is at fault: the magic; or the version behind it; or the heading; or the runs; or the cells, of which each is of the version and of a dot in a run; or the totals; or bytes follow these.
+-- What follows the length is at fault: the magic; or the version after it; or the heading; or the runs; or the cells, of which each
+-- is of the version and of a dot in a run; or the totals; or bytes follow these.
 abbrev pub ContentFails : DecodeFault → List ℕ → Type 0
 ContentFails fault bytes =
     Lacks (λ letters. letters ≡ magic) (λ letters. letters) BadMagic fault bytes

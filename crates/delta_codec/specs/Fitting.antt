@@ -1,4 +1,4 @@
--- Which frames have a spelling.
+-- Which frames have an encoding.
 use Rattle.std.specs.Prelude.{◌≡◌, ◌≤◌, true, None, Some}
 use Rattle.std.specs.FinMap as map
 use Rattle.std.specs.FinSet as set
@@ -12,8 +12,8 @@ use Rattle.delta.specs.declared.frame.Frame.{Frame}
 use Rattle.delta_codec.specs.declared.limits.TheConstants.{VERSION}
 use Rattle.delta_codec.specs.Parts.{IsCell}
 
--- a frame fits the format, as it is written: its maker, its number, the dots that it knows, its live dots with all that they have, each of them known, and its totals are within
--- their limits, and there are no more live dots, and no more runs of known ones, than there may be
+-- a frame fits the format: its maker, its number, the dots that it knows, its live dots with member and fields, each of them known,
+-- and its totals are within their limits, and so are the numbers of live dots and of runs of known dots
 pub record FitsFormat (frame : Frame) : Type 0 where
   pub maker : IsSite frame.maker
   pub number : IsCount frame.number

@@ -1,4 +1,4 @@
--- Which bytes spell a frame, in which version of the format.
+-- Which bytes encode a frame, in which version of the format.
 use Rattle.std.specs.Prelude.{ℕ, ◌≡◌, ◌≤◌, List, [], ◌∷◌, ◌++◌, length, IsTrue}
 use Rattle.std.specs.FinMap as map
 use Rattle.std.specs.Int.{w32, w64, to_be_bytes}
@@ -15,12 +15,12 @@ use Rattle.delta.specs.DeltaStates.{DeltaState}
 use Rattle.delta_codec.specs.declared.limits.TheConstants.{MOST_TOTALS, OLDEST_VERSION, VERSION}
 use Rattle.delta_codec.specs.Parts.{CellParts, IsCell, IsListOf, TotalParts, byte, cell_bytes, list_bytes, run_bytes, total_bytes}
 
--- who made a frame, and which of its maker's frames it is, from 1
+-- the maker of a frame, and the frame's number among those of its maker, from 1
 pub record Heading : Type 0 where
   pub maker : ℕ
   pub number : ℕ
 
--- what a frame consists of, as it is spelled: its version, its heading, its context by runs, its cells, and its totals
+-- the parts of a frame: its version, its heading, its context by runs, its cells, and its totals
 pub record FrameParts : Type 0 where
   pub version : ℕ
   pub heading : Heading
@@ -36,20 +36,20 @@ magic = 81 ∷ 68 ∷ []
 abbrev pub heading_bytes : Heading → List ℕ
 heading_bytes heading = heading.maker ∷ to_be_bytes w64 heading.number
 
--- what stands between the length and the runs: magic, version, one byte, heading
+-- the bytes between the length and the runs: magic, version, one byte, heading
 abbrev pub opening_bytes : ℕ → Heading → List ℕ
 opening_bytes version heading = magic ++ (byte version ++ heading_bytes heading)
 
--- what stands behind the length: magic, version, heading, runs, cells, totals
+-- the bytes after the length: magic, version, heading, runs, cells, totals
 abbrev pub content_bytes : FrameParts → List ℕ
 content_bytes parts =
     magic ++ (byte parts.version ++ (heading_bytes parts.heading ++ (list_bytes run_bytes parts.runs ++ (list_bytes cell_bytes parts.cells ++ list_bytes total_bytes parts.totals))))
 
--- a frame: how many bytes follow, four bytes, and these
+-- a frame: the number of the bytes that follow, four bytes, and these
 abbrev pub frame_bytes : FrameParts → List ℕ
 frame_bytes parts = to_be_bytes w32 (length (content_bytes parts)) ++ content_bytes parts
 
--- a version of the format: one of those that are read
+-- a version of the format: one of those that sites read
 abbrev pub IsVersion : ℕ → Type 0
 IsVersion version = (OLDEST_VERSION ≤ version) × (version ≤ VERSION)
 
@@ -79,7 +79,7 @@ pub record AreParts (parts : FrameParts) : Type 0 where
   pub cells : AreCells parts.version parts.runs parts.cells
   pub totals : AreTotals parts.totals
 
--- parts are those of a frame: the runs of what it knows, its live dots in their order, and its totals in theirs
+-- parts are those of a frame: the runs of what it knows, its live dots and its totals, each in order
 pub record ArePartsOf (frame : Frame) (parts : FrameParts) : Type 0 where
   pub maker : parts.heading.maker ≡ frame.maker
   pub number : parts.heading.number ≡ frame.number
@@ -87,8 +87,7 @@ pub record ArePartsOf (frame : Frame) (parts : FrameParts) : Type 0 where
   pub cells : parts.cells ≡ map.entries frame.delta.members.live
   pub totals : parts.totals ≡ map.entries frame.delta.totals.entries
 
--- bytes spell a frame, in one of the versions: its parts are within the limits and in order, and the bytes are theirs, one after the
--- other
+-- bytes spell a frame, in one of the versions: its parts are within the limits and in order, and the bytes are theirs, in order
 pub record Spells (frame : Frame) (bytes : List ℕ) : Type 0 where
   pub parts : FrameParts
   pub of_frame : ArePartsOf frame parts
@@ -100,7 +99,7 @@ pub record SpellsIn (version : ℕ) (frame : Frame) (bytes : List ℕ) : Type 0 
   pub spells : Spells frame bytes
   pub version_is : spells.parts.version ≡ version
 
--- the parts, as they are written, of a frame with this heading and this delta, whose context has these runs
+-- the parts, as sites write them, of a frame with this heading and this delta, whose context has these runs
 abbrev pub parts_with : Heading → DeltaState → List Run → FrameParts
 parts_with heading delta runs = record {
   version = VERSION;

@@ -2,7 +2,7 @@
 use Rattle.std.specs.Prelude.{ℕ, ◌+◌}
 use Rattle.dots.specs.declared.limits.TheConstants.{TEXT_BYTES}
 
--- a text, behind its length
+-- a text, after its length
 abbrev pub most_text : ℕ
 most_text = 1 + TEXT_BYTES
 
@@ -22,7 +22,7 @@ most_label = most_text + most_text
 abbrev pub most_ring : ℕ
 most_ring = 1
 
--- a field whose value has so many at most: its stamp has nine
+-- the length of a field whose value has at most `value` bytes: its stamp has nine
 abbrev pub most_field : ℕ → ℕ
 most_field most = 9 + most
 

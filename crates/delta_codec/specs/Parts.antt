@@ -1,4 +1,4 @@
--- The parts of a frame: how each is spelled as bytes, and which values it may have. Numbers are big-endian.
+-- The parts of a frame: the bytes of each, and the values within its limits. Numbers are big-endian.
 use Rattle.std.specs.Prelude.{ℕ, ⊤, ◌≤◌, ◌+◌, ◌*◌, ◌==◌, Bool, true, false, List, [], ◌∷◌, ◌++◌, length, Option, Some, None, IfSome, is_some, if◌then◌else◌}
 use Rattle.std.specs.Int.{w16, w32, w64, to_be_bytes}
 use Rattle.std.specs.List.{All, flat_map}
@@ -21,13 +21,13 @@ CellParts = Dot × Holding
 abbrev pub TotalParts : Type 0
 TotalParts = Key × CallTotals
 
--- ---- how each part is spelled
+-- ---- the bytes of each part
 
 -- one byte
 abbrev pub byte : ℕ → List ℕ
 byte n = n ∷ []
 
--- a text: how many bytes it has, one byte, and these
+-- a text: its number of bytes, one byte, and these
 abbrev pub text_bytes : List ℕ → List ℕ
 text_bytes text = length text ∷ text
 
@@ -52,7 +52,7 @@ abbrev pub bit_of : Bool → ℕ
 bit_of true = 1
 bit_of false = 0
 
--- a pause: whether it is one, and the reason
+-- a pause: whether the member is paused, and the reason
 abbrev pub pause_bytes : PauseState → List ℕ
 pause_bytes pause = bit_of pause.paused ∷ text_bytes pause.reason
 
@@ -89,11 +89,11 @@ cell_bytes cell = dot_bytes cell.0 ++ (to_be_bytes w16 cell.1.0.queue ++ (text_b
 abbrev pub total_bytes : TotalParts → List ℕ
 total_bytes total = total.0.site ∷ (to_be_bytes w16 total.0.queue ++ (to_be_bytes w64 total.1.completed ++ to_be_bytes w64 total.1.abandoned))
 
--- a list: how many there are, four bytes, and each
+-- a list: the number of its elements, four bytes, and each
 abbrev pub list_bytes : {A : Type 0} → (A → List ℕ) → List A → List ℕ
 list_bytes spell xs = to_be_bytes w32 (length xs) ++ flat_map spell xs
 
--- ---- which values a part may have
+-- ---- the values of each part
 
 -- a field that is set has a stamp and a value within their limits
 pub record IsEntry {T : Type 0} (IsValue : T → Type 0) (entry : Entry T) : Type 0 where
@@ -104,7 +104,7 @@ pub record IsEntry {T : Type 0} (IsValue : T → Type 0) (entry : Entry T) : Typ
 abbrev pub IsField : {T : Type 0} → (T → Type 0) → Option (Entry T) → Type 0
 IsField IsValue field = IfSome field (IsEntry IsValue)
 
--- a ring is true or false, and each may be
+-- a ring is true or false, and both are within its limits
 abbrev pub IsRing : Bool → Type 0
 IsRing ring = ⊤
 

@@ -1,4 +1,4 @@
--- Reading from left to right: the part that stands at the front and the bytes behind it, or the first fault.
+-- Reading bytes in order: the part at the front and the bytes after it, or the first fault.
 use Rattle.std.specs.Prelude.{◌≡◌, ℕ, zero, suc, Bool, true, false, not, ◌&&◌, ◌==◌, ◌+◌, List, [], ◌∷◌, length, take, drop, Option, Some, None, Result, Ok, Err, nat_le, nat_lt, fold, if◌then◌else◌}
 use Rattle.std.specs.FinMap as map
 use Rattle.std.specs.FinSet as set
@@ -22,13 +22,13 @@ use Rattle.delta_codec.specs.Parts.{CellParts, TotalParts, most_flags}
 use Rattle.delta_codec.specs.Frames.{Heading, magic}
 use Rattle.delta_codec.specs.Faults.{QueuedDot, label_flag, pause_flag, penalty_flag, ring_flag}
 
--- what is read: a part and the bytes behind it, or a fault
+-- what is read: a part and the bytes after it, or a fault
 abbrev pub Read : Type 0 → Type 0
 Read A = Result (A × List ℕ) DecodeFault
 
--- ---- how reading goes on
+-- ---- sequences of parts
 
--- where there is a fault it stays, else reading goes on with the part
+-- a fault stays; otherwise reading goes on with the part
 infixl 10 ◌>>=◌
 abbrev pub ◌>>=◌ : {A B : Type 0} → Result A DecodeFault → (A → Result B DecodeFault) → Result B DecodeFault
 (Ok x) >>= f = f x
@@ -141,7 +141,7 @@ label_at bytes = made (λ p. record { name = p.0; state = p.1 }) (both (text_at 
 unfoldable pub ring_at : List ℕ → Read Bool
 ring_at bytes = made (λ n. n == 1) (bit_at bytes)
 
--- what is set of a field: its stamp, and then its value
+-- the value of a set field: its stamp, and then its value
 unfoldable pub entry_at : {T : Type 0} → (List ℕ → Read T) → List ℕ → Read (Entry T)
 entry_at value_at bytes = made (λ p. record { stamp = p.0; value = p.1 }) (both (stamp_at bytes) (λ _. value_at))
 
@@ -150,7 +150,7 @@ unfoldable pub field_at : {T : Type 0} → Bool → (List ℕ → Read T) → Li
 field_at false value_at bytes = Ok (None, bytes)
 field_at true value_at bytes = made Some (entry_at value_at bytes)
 
--- the fields behind their flags
+-- the fields after their flags
 unfoldable pub set_fields_at : ℕ → List ℕ → Read DotFields
 set_fields_at flags bytes =
     made (λ p. record { penalty = p.0; pause = p.1.0; label = p.1.1.0; ring = p.1.1.1 })
@@ -158,7 +158,7 @@ set_fields_at flags bytes =
     both (field_at (pause_flag flags) pause_at rest) (λ _ rest.
     both (field_at (label_flag flags) label_at rest) (λ _. field_at (ring_flag flags) ring_at))))
 
--- the flags of fields of a version, and then the fields that they say
+-- the flags of fields of a version, and then the fields that they name
 unfoldable pub fields_at : ℕ → List ℕ → Read DotFields
 fields_at version bytes = made (λ p. p.1) (both (flags_at version bytes) set_fields_at)
 
@@ -191,12 +191,12 @@ total_at bytes =
 
 -- ---- lists
 
--- why an element can't stand behind another, if it can't
+-- the fault of an element that can't follow another, if it can't
 abbrev pub unless : Bool → DecodeFault → Option DecodeFault
 unless true fault = None
 unless false fault = Some fault
 
--- it can't where its key doesn't follow the last one
+-- `BadOrder` where a key doesn't follow the last one
 abbrev pub order_fault : {K : Type 0} → (K → K → Bool) → Option K → K → Option DecodeFault
 order_fault follows None key = None
 order_fault follows (Some last) key = unless (follows last key) BadOrder
@@ -223,7 +223,7 @@ abbrev pub accepted : {A : Type 0} → Option DecodeFault → A → Result A Dec
 accepted None x = Ok x
 accepted (Some fault) x = Err fault
 
--- how elements are read: one of them, its key, and why a key can't stand behind another
+-- how elements are read: one of them, its key, and why a key can't follow another
 pub record Elements (A K : Type 0) : Type 0 where
   pub at : List ℕ → Read A
   pub key : A → K
@@ -241,11 +241,11 @@ cell_elements version is_known = record { at = cell_at version; key = λ cell. c
 abbrev pub total_elements : Elements TotalParts Key
 total_elements = record { at = total_at; key = λ total. total.0; fault_of = order_fault is_key_before }
 
--- the next element, behind the last one
+-- the next element, after the last one
 abbrev pub next_at : {A K : Type 0} → Elements A K → Option K → List ℕ → Read A
 next_at e last bytes = e.at bytes >>= λ x. accepted (e.fault_of last (e.key x.0)) x
 
--- a given number of elements, each behind the one before
+-- a given number of elements, each after the one before
 unfoldable pub elements_at : {A K : Type 0} → Elements A K → ℕ → Option K → List ℕ → Read (List A)
 elements_at e zero last bytes = Ok ([], bytes)
 elements_at e (suc n) last bytes = next_at e last bytes >>= λ x. elements_at e n (Some (e.key x.0)) x.1 >>= λ xs. Ok (x.0 ∷ xs.0, xs.1)
@@ -258,15 +258,15 @@ size_at most bytes = tested (λ n. nat_le n most) TooLarge (number_at w32 bytes)
 unfoldable pub list_at : {A K : Type 0} → Elements A K → ℕ → List ℕ → Read (List A)
 list_at e most bytes = size_at most bytes >>= λ n. elements_at e n.0 None n.1
 
--- what is kept of a list, element by element: a run's dots are known
+-- what is kept of a list of runs, element by element: a run's dots are known
 abbrev pub with_run : set.FinSet dot_cmp → Run → set.FinSet dot_cmp
 with_run dots run = set.union dots (dots_between run.site run.first run.last)
 
--- a cell's dot is live
+-- what is kept of a list of cells, element by element: a cell's dot is live
 abbrev pub with_cell : map.FinMap dot_cmp Holding → CellParts → map.FinMap dot_cmp Holding
 with_cell live cell = map.insert live cell.0 cell.1
 
--- a total is joined with those before
+-- what is kept of a list of totals, element by element: a total is joined with those before
 abbrev pub with_total : Entries → TotalParts → Entries
 with_total entries total = join_of entries (single total.0 total.1)
 
@@ -311,7 +311,7 @@ unfoldable pub version_at : List ℕ → Read ℕ
 version_at [] = Err BadVersion
 version_at (n ∷ rest) = if is_version n then Ok (n, rest) else Err BadVersion
 
--- who made the frame, and its number
+-- the maker of the frame, and its number
 unfoldable pub heading_at : List ℕ → Read Heading
 heading_at bytes = made (λ p. record { maker = p.0; number = p.1 }) (both (site_at bytes) (λ _. count_at))
 
@@ -319,7 +319,7 @@ heading_at bytes = made (λ p. record { maker = p.0; number = p.1 }) (both (site
 abbrev pub ended : {A : Type 0} → A × List ℕ → Result A DecodeFault
 ended x = if length x.1 == 0 then Ok x.0 else Err BadRange
 
--- the bytes that a length says, which stand behind it
+-- the bytes that a length says, which follow it
 unfoldable pub within_at : ℕ → List ℕ → Result (List ℕ) DecodeFault
 within_at len rest =
     if nat_lt MOST_LENGTH len then Err TooLarge
@@ -356,12 +356,12 @@ kept_in bytes = content_in bytes >>= λ content. kept_at content >>= λ kept. Ok
 
 -- ---- what functions return
 
--- What a function returned, seen by view, is what reading gives.
+-- A function's result, by its view, is the result of reading.
 abbrev pub ReturnsRead : {X Y : Type 0} → (X → Y) → Result X DecodeFault → Result Y DecodeFault → Type 0
 ReturnsRead view (Ok x) read = read ≡ Ok (view x)
 ReturnsRead view (Err fault) read = read ≡ Err fault
 
--- It is the fault that reading gives, or want of memory.
+-- A result is the fault that reading gives, or out of memory.
 abbrev pub Fails : {Y : Type 0} → DecodeFault → Result Y DecodeFault → Type 0
 Fails Memory read = Unit {0}
 Fails Truncated read = read ≡ Err Truncated
@@ -372,7 +372,7 @@ Fails BadOrder read = read ≡ Err BadOrder
 Fails BadText read = read ≡ Err BadText
 Fails TooLarge read = read ≡ Err TooLarge
 
--- What a function returned that takes memory, seen by view, is what reading gives, unless memory ran out.
+-- The result of a function that takes memory, by its view, is the result of reading, unless memory ran out.
 abbrev pub GivesWithMemory : {X Y : Type 0} → (X → Y) → Result X DecodeFault → Result Y DecodeFault → Type 0
 GivesWithMemory view (Ok x) read = read ≡ Ok (view x)
 GivesWithMemory view (Err fault) read = Fails fault read

@@ -1,4 +1,5 @@
--- What is seen of the parts of a frame as they are written: they are within their limits, but for what only a frame asks of them.
+-- What contracts show of the parts of a frame as they are written: they are within their limits, except those that only a frame
+-- has.
 use Rattle.std.specs.Prelude.{ℕ}
 use Rattle.std.specs.FinMap as map
 use Rattle.std.specs.List.{All}
@@ -9,13 +10,13 @@ use Rattle.member_orset.specs.Members.{IsWithinLimits}
 use Rattle.delta.specs.DeltaStates.{DeltaState}
 use Rattle.delta_codec.specs.Parts.{AreInLimits, CellParts}
 
--- all that a cell has is within its limits; its queue may be any, and all its fields may be unset
+-- all parts of a cell are within their limits; its queue may be any, and all its fields may be unset
 pub record IsWritten (cell : CellParts) : Type 0 where
   pub dot : IsDot cell.0
   pub interface : IsName cell.1.0.interface
   pub fields : AreInLimits cell.1.1
 
--- so is what a maker and a delta have; a queue may be any
+-- all parts of a maker and a delta are within their limits; a queue may be any
 pub record AreWritten (maker : ℕ) (delta : DeltaState) : Type 0 where
   pub maker_is : IsSite maker
   pub members : IsWithinLimits delta.members

@@ -1,20 +1,20 @@
 use thiserror::Error;
 
-/// Why no frame is read from the front of some bytes. They are read from left to right, and the first rule that fails names the
-/// fault (this project's own).
+/// Why no frame is decoded from the front of bytes. They are read in order, and the first rule that fails gives the fault (this
+/// project's own).
 #[derive(Clone, Copy, Debug, PartialEq, Eq, Error)]
 pub enum DecodeFault {
-    /// The bytes end before the frame does: more of them may come.
+    /// The bytes end before the frame does: more of them may follow.
     #[error("not all there")]
     Truncated,
-    /// The two letters that stand behind each frame's length are missing.
+    /// The two letters that follow each frame's length are missing.
     #[error("no frame")]
     BadMagic,
     /// The frame is of no version from `OLDEST_VERSION` to `VERSION`.
     #[error("unknown version")]
     BadVersion,
-    /// A number, flags, or the frame's length is out of its range; a part reaches past the frame's end; a reason stands behind no
-    /// pause; both counts of a total are zero; a cell's dot is in no run; or bytes follow the last part.
+    /// A number, flags, or the frame's length is out of its range; a part reaches past the frame's end; a reason stands without
+    /// a pause; both counts of a total are zero; a cell's dot is in no run; or bytes follow the last part.
     #[error("out of range")]
     BadRange,
     /// A run, a cell or a total doesn't follow the one before.
@@ -23,7 +23,7 @@ pub enum DecodeFault {
     /// A text is too long or too short, or has a CR, LF or NUL.
     #[error("no text")]
     BadText,
-    /// The frame's length, or how many runs, cells or totals it has, is over its limit.
+    /// The frame's length, or its number of runs, cells or totals, is over its limit.
     #[error("too large")]
     TooLarge,
     /// An allocation was refused.

@@ -13,7 +13,7 @@ use delta::Delta;
 use dots::SiteId;
 use std::alloc::Global;
 
-// Who made a frame, and its number.
+// Reads the maker of a frame, and its number.
 #[tactic(auto, unfolding(crate::specs::Reading::heading_at))]
 fn read_heading(reader: &mut Reader<'_>) -> Result<(SiteId, u64), DecodeFault>
     ensures { ReturnsRead (λ x. (record { maker = x.0; number = x.1 }, reader.new)) result
@@ -24,7 +24,7 @@ fn read_heading(reader: &mut Reader<'_>) -> Result<(SiteId, u64), DecodeFault>
     Ok((maker, number))
 }
 
-// The frame that stands behind its length.
+// The frame that follows its length.
 #[tactic(auto, unfolding(crate::specs::Reading::kept_at, crate::specs::Reading::opening_at))]
 fn read_content(alloc: Global, bytes: &[u8]) -> Result<Frame, DecodeFault>
     ensures value { GivesWithMemory frame_kept result (kept_at bytes.now) }
@@ -50,7 +50,7 @@ fn read_content(alloc: Global, bytes: &[u8]) -> Result<Frame, DecodeFault>
     })
 }
 
-// The bytes of a frame behind its length, which says how many they are.
+// Reads the bytes of a frame after its length, which is their number.
 #[tactic(auto, unfolding(crate::specs::Reading::within_at))]
 fn content_within(len: usize, rest: &[u8]) -> Result<&[u8], DecodeFault>
     ensures value { ReturnsRead (λ x. x.now) result (within_at len rest.now) }
@@ -68,7 +68,7 @@ fn content_within(len: usize, rest: &[u8]) -> Result<&[u8], DecodeFault>
     Ok(&rest[..len])
 }
 
-// The length of a frame, and the bytes behind it.
+// The length of a frame, and the bytes after it.
 #[tactic(auto, unfolding(crate::specs::Reading::content_in))]
 fn content_of(bytes: &[u8]) -> Result<&[u8], DecodeFault>
     ensures value { ReturnsRead (λ x. x.now) result (content_in bytes.now) }
@@ -94,25 +94,29 @@ fn read_frame(alloc: Global, bytes: &[u8]) -> Result<(Frame, usize), DecodeFault
     Ok((frame, 4 + content.len()))
 }
 
-/// The frame that the bytes begin with, in either version, and how many bytes it has; bytes behind it are not looked at. A frame is
-/// answered exactly where the bytes begin with one, or else `Memory`. Each run, cell and total is kept as it is read (this project's
-/// own).
+/// Decodes the frame that `bytes` begin with, in either version. Returns the frame and its number of bytes; bytes after it are not
+/// read. Returns a frame exactly where the bytes begin with one and memory suffices. Each run, cell and total is stored when it is
+/// read.
 ///
-/// The bytes are read from left to right, and the first rule that fails names the fault. 1 `Truncated`: fewer than four bytes; then
-/// `TooLarge`: a length over 8,388,608; then `BadRange`: one under 24; then `Truncated`: fewer bytes than the length says. From
-/// there on only these are looked at. 2 `BadMagic`, then `BadVersion`. 3 `BadRange`: a part that would reach past the end, a
-/// number or flags out of their range in this version, a reason of what isn't a pause, totals of two zeros, a dot in no run, bytes
-/// behind the totals.
-/// 4 `TooLarge`: a count over its limit. 5 `BadText`: a text of more than 80 bytes, an interface of none, a CR, LF or NUL in a
-/// text. 6 `BadOrder`: a run, a cell or totals that don't follow the one before. 7 `Memory`.
+/// The bytes are read in order, and the first rule that fails gives the fault:
 ///
-/// Each of these comes exactly where the bytes have it (`HasFault`), and all bytes have a frame or one fault
-/// (`bytes_have_a_frame_or_a_fault`); but since what is read is kept at once, `Memory` may stand in place of a frame or of a fault that
-/// stands behind the heading. It never stands in place of what comes up to there: of 1, of 2, and of a bad maker or number.
+/// 1. `Truncated`: fewer than four bytes; then `TooLarge`: a length over 8,388,608; then `BadRange`: a length under 24; then
+///    `Truncated`: fewer bytes than the length. From there on only the bytes within the length are read.
+/// 2. `BadMagic`, then `BadVersion`.
+/// 3. `BadRange`: a part that would reach past the end, a number or flags out of their range in this version, a reason without a
+///    pause, totals of two zeros, a dot in no run, bytes after the totals.
+/// 4. `TooLarge`: a count over its limit.
+/// 5. `BadText`: a text of more than 80 bytes, an interface of none, a CR, LF or NUL in a text.
+/// 6. `BadOrder`: a run, a cell or totals that don't follow the one before.
+/// 7. `Memory`.
+///
+/// Each fault occurs exactly where the bytes have it (`HasFault`), and all bytes have a frame or one fault
+/// (`bytes_have_a_frame_or_a_fault`). But since each part is stored when it is read, `Memory` may replace a frame, or a fault after
+/// the heading. It never replaces a fault up to there: those of 1 and 2, and a bad maker or number.
 pub fn decode(alloc: Global, bytes: &[u8]) -> Result<(Frame, usize), DecodeFault>
     ensures front { IsFrontFrame bytes.now result }
     ensures fault { IsFrontFault bytes.now result }
-    // All places of dead dots are used again.
+    // No place of dead dots is retired.
     ensures retired { IfOk result (λ x. x.0.delta.members.retired ≡ 0) }
 {
     read_frame(alloc, bytes)

@@ -1,4 +1,4 @@
-//! The runs, the cells and the totals of a frame at the front of bytes, each kept as it is read.
+//! Reads the runs, the cells and the totals of a frame from the front of bytes, each stored when it is read.
 ghost use Rattle.std.specs.Prelude.{◌≡◌, ◌↔◌, ◌≤◌, ◌<◌, IfErr, IfOk, IsSome, IsTrue, None, OnOk};
 ghost use Rattle.std.specs.Prelude.{true};
 ghost use Rattle.std.specs.declared.cmp.Ordering.TheVariants.{Less};
@@ -31,7 +31,7 @@ use member_orset::{MemberSet, SetBuilder};
 use site_totals::{TotalKey, Totals};
 use std::alloc::Global;
 
-// Whose totals, and how many calls.
+// The key of totals, and their calls.
 #[derive(Drop)]
 pub(crate) struct TotalRead {
     key: TotalKey,
@@ -52,7 +52,7 @@ fn read_run(reader: &mut Reader<'_>) -> Result<Run, DecodeFault>
     Ok(Run { site, first, last })
 }
 
-// Whether a run may stand behind another: it is of a later site, or a missing count lies between them.
+// Whether a run may follow another: it is of a later site, or a missing count lies between them.
 fn is_before(last: Run, run: Run) -> bool
     ensures { result ≡ is_apart last run }
 {
@@ -60,7 +60,7 @@ fn is_before(last: Run, run: Run) -> bool
         || last.site == run.site && last.last < run.first && run.first - last.last > 1
 }
 
-// A run that may stand behind the last one.
+// A run that may follow the last one.
 fn read_next_run(last: Option<Run>, reader: &mut Reader<'_>) -> Result<Run, DecodeFault>
     ensures value { ReturnsRead (λ x. (x, reader.new)) result (next_at run_elements last reader.old) }
     ensures within { IfOk result (λ x. IsRunWithinLimits x) }
@@ -73,7 +73,7 @@ fn read_next_run(last: Option<Run>, reader: &mut Reader<'_>) -> Result<Run, Deco
     }
 }
 
-// Adds a run to a context, which doesn't have too many then.
+// Adds a run to a context, which has room in its limit.
 fn keep_run(context: &mut Context, run: Run) -> Result<(), DecodeFault>
     requires few { run_count (with_run context.old.dots run) ≤ MOST_RUNS }
     ensures ok { OnOk result (context.new.dots ≡ with_run context.old.dots run) }
@@ -88,7 +88,7 @@ fn keep_run(context: &mut Context, run: Run) -> Result<(), DecodeFault>
     }
 }
 
-// So many runs.
+// Reads `count` runs.
 fn read_counted_runs(
     alloc: Global,
     count: u32,
@@ -144,7 +144,7 @@ fn read_place(reader: &mut Reader<'_>) -> Result<(Dot, u16), DecodeFault>
     Ok((dot, queue))
 }
 
-// Whether a dot may stand behind the last one.
+// Whether a dot may follow the last one.
 fn follows(last: Option<Dot>, dot: Dot) -> bool
     ensures { IsTrue result ↔ (order_fault is_dot_before last dot ≡ None) }
 {
@@ -154,7 +154,7 @@ fn follows(last: Option<Dot>, dot: Dot) -> bool
     }
 }
 
-// Sees that a dot may stand behind the last one, and is known.
+// Checks that a dot may follow the last one, and is known.
 fn see_dot(known: &Context, last: Option<Dot>, dot: Dot) -> Result<(), DecodeFault>
     ensures ok { OnOk result (dot_fault (set.contains known.now.dots) last dot ≡ None) }
     ensures err { IfErr result
@@ -171,7 +171,7 @@ fn see_dot(known: &Context, last: Option<Dot>, dot: Dot) -> Result<(), DecodeFau
     Ok(())
 }
 
-// Gives a cell to a builder.
+// Adds a cell to a builder.
 fn keep_cell(
     builder: &mut SetBuilder,
     dot: Dot,
@@ -193,8 +193,8 @@ fn keep_cell(
     }
 }
 
-// Reads a cell of this version whose dot may stand behind the last one and is known, gives it to a builder, and answers its dot. What it
-// reads is moved once, into the set.
+// Reads a cell of this version whose dot may follow the last one and is known, adds it to a builder, and returns its dot. The cell
+// is moved once, into the set.
 #[tactic(auto, unfolding(crate::specs::Reading::cell_at, crate::specs::Reading::fields_at, crate::specs::Reading::set_fields_at))]
 fn read_cell(
     builder: &mut SetBuilder,
@@ -228,7 +228,7 @@ fn read_cell(
     Ok(dot)
 }
 
-// So many cells of this version, given to a builder.
+// Reads `count` cells of this version, and adds them to a builder.
 fn read_counted_cells(
     builder: &mut SetBuilder,
     version: u8,
@@ -293,7 +293,7 @@ fn read_total(reader: &mut Reader<'_>) -> Result<TotalRead, DecodeFault>
     Ok(TotalRead { key, totals })
 }
 
-// Totals whose key may stand behind the last one.
+// Totals whose key may follow the last one.
 fn read_next_total(
     last: Option<TotalKey>,
     reader: &mut Reader<'_>,
@@ -326,7 +326,7 @@ fn keep_total(totals: &mut Totals, total: &TotalRead) -> Result<(), DecodeFault>
     }
 }
 
-// So many totals.
+// Reads `count` totals.
 fn read_counted_totals(
     alloc: Global,
     count: u32,

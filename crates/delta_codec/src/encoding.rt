@@ -14,7 +14,7 @@ use delta::Delta;
 use dots::SiteId;
 use std::alloc::Global;
 
-// What stands behind the length of a frame with this delta, whose context has these runs.
+// What follows the length of a frame with this delta, whose context has these runs.
 fn put_content(
     out: &mut Vec<u8>,
     maker: SiteId,
@@ -55,8 +55,8 @@ fn encode_with(
     Ok(out)
 }
 
-/// The bytes that spell the frame of this maker and number with this delta, as `encode` gives those of a frame. The delta stays where it
-/// lies, and nothing of it is copied. The one fault is want of memory (this project's own).
+/// The bytes of the frame of this maker and number with this delta, as `encode` gives those of a frame. Borrows the delta and
+/// copies nothing of it. Fails only when out of memory.
 pub fn encode_parts(
     alloc: Global,
     maker: SiteId,
@@ -70,9 +70,9 @@ pub fn encode_parts(
     encode_with(alloc, maker, number, delta, runs)
 }
 
-/// The bytes that spell a frame in version `VERSION`, for a frame within the ranges of the format: its number is from 1 to 2^40, and each
-/// queue's number is below 256. They have at most 7,618,588 bytes (`a_frame_has_a_length`). Of other frames it is only said that the call
-/// returns. The exact room is reserved first. The one fault is want of memory (this project's own).
+/// The bytes that encode a frame in version `VERSION`, if the frame is within the ranges of the format: its number is from 1 to
+/// 2^40, and each queue's number is below 256. They are at most 7,618,588 (`a_frame_has_a_length`). For other frames the result is
+/// unspecified. Reserves the exact room first. Fails only when out of memory.
 pub fn encode(alloc: Global, frame: &Frame) -> Result<Vec<u8>, Memory>
     ensures { IsInRanges frame.now
         → IfOk result (λ bytes. SpellsIn VERSION frame.now bytes.items) }

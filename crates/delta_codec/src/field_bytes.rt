@@ -1,4 +1,4 @@
-//! What the value of a field is in a frame: the table of the fields' types.
+//! The encoding of a field's value: the table of the fields' types.
 ghost use Rattle.std.specs.Prelude.{◌≡◌, ◌++◌, ◌≤◌, ℕ, List, OnOk, length};
 ghost use Rattle.dots.specs.Values.{IsPenalty};
 ghost use Rattle.dots.specs.WithinLimits.{IsLabel, IsPause};
@@ -16,32 +16,32 @@ use crate::writing::{put_number4, put_text};
 use crate::{DecodeFault, Memory};
 use dots::{Label, Pause, Penalty};
 
-// The value of a field, as it stands in a frame.
+// The value of a field, with its encoding.
 pub(crate) trait FieldBytes: Drop + Sized {
-    // How it is spelled.
+    // Its bytes.
     ghost bytes: { Self → List ℕ };
 
-    // Which values it may have.
+    // The values within its limits.
     ghost is_within: { Self → Type 0 };
 
-    // How many bytes it has at most.
+    // The most bytes that it has.
     ghost most: { ℕ };
 
-    // How it is read.
+    // The result of reading it.
     ghost at: { List ℕ → Read Self };
 
-    // How many bytes it has: few enough that sizes can be added up.
+    // Its number of bytes: few enough that sizes can be added without overflow.
     fn size(&self) -> usize
         ensures value { result ≡ length (bytes self.now) }
         ensures limit { result ≤ most }
         ensures few { result ≤ 255 };
 
-    // Writes it at the end of what was written before, and sees that it is within its limits.
+    // Appends it to earlier bytes, and shows that it is within its limits.
     fn put(&self, out: &mut Vec<u8>) -> Result<(), Memory>
         ensures written { OnOk result (out.new.items ≡ out.old.items ++ bytes self.now) }
         ensures within { OnOk result (is_within self.now) };
 
-    // Reads it at the front of what is left.
+    // Reads it from the front of the bytes that are left.
     fn read(reader: &mut Reader<'_>) -> Result<Self, DecodeFault>
         ensures { ReturnsRead (λ x. (x, reader.new)) result (at reader.old) };
 }

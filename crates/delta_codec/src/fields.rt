@@ -62,7 +62,7 @@ fn read_no_reason(reader: &mut Reader<'_>) -> Result<Text80, DecodeFault>
     Ok(Text80::empty())
 }
 
-// The reason behind the byte of a pause: none where it is 0.
+// The reason after the byte of a pause: none where it is 0.
 #[tactic(auto, unfolding(crate::specs::Reading::reason_at))]
 pub(crate) fn read_reason(paused: u8, reader: &mut Reader<'_>) -> Result<Text80, DecodeFault>
     ensures value { ReturnsRead (λ x. (x, reader.new)) result (reason_at paused reader.old) }

@@ -1,4 +1,4 @@
-//! Laws of the spelling of frames. The functions have no body: their contracts are the laws.
+//! Laws of the encoding of frames. The functions have no body: their contracts are the laws.
 ghost use Rattle.std.specs.Prelude.{◌≡◌, ◌≢◌, ◌⊎◌, ◌≤◌, ◌∷◌, ◌++◌, ℕ, List, [], drop, length};
 ghost use Rattle.std.specs.Prelude.{take};
 ghost use Rattle.delta_codec.specs.declared.decode_fault.DecodeFault.{DecodeFault};
@@ -18,14 +18,14 @@ ghost use Rattle.delta_codec.specs.Fitting.{FitsFormat, HasNoRing};
 ghost use Rattle.delta_codec.specs.Frames.{AreParts, FrameParts, Spells, SpellsIn, content_bytes};
 ghost use Rattle.delta_codec.specs.Frames.{frame_bytes};
 
-/// Each frame has one spelling in each version: there frames of one maker and number whose deltas say the same have equal bytes.
+/// Each frame has one encoding in each version: frames of one maker and number whose deltas say the same have equal bytes there.
 pub fn each_frame_has_one_spelling()
     ensures { (version : ℕ) (x y : Frame) (a b : List ℕ)
         → IsSameFrame x y → SpellsIn version x a → SpellsIn version y b → a ≡ b }
 {}
 
-/// Bytes that spell a frame spell each of its maker and number whose delta says the same, in the same version; so a copy of a delta is
-/// spelled as the delta is.
+/// Bytes that encode a frame encode each frame of its maker and number whose delta says the same, in the same version; so a copy of
+/// a delta has the same bytes as the delta.
 pub fn a_spelling_is_of_all_that_say_the_same()
     ensures any { (x y : Frame) (bytes : List ℕ)
         → Spells x bytes → IsSameFrame x y → Spells y bytes }
@@ -33,7 +33,7 @@ pub fn a_spelling_is_of_all_that_say_the_same()
         → SpellsIn version x bytes → IsSameFrame x y → SpellsIn version y bytes }
 {}
 
-/// Bytes spell at most one frame, in one version, and no spelling begins another.
+/// Bytes encode at most one frame, in one version, and no encoding is a prefix of another.
 pub fn bytes_spell_one_frame()
     ensures one { (x y : Frame) (bytes : List ℕ)
         → Spells x bytes → Spells y bytes → IsSameFrame x y }
@@ -64,8 +64,8 @@ pub fn bytes_have_a_frame_or_a_fault()
         → HasFault bytes fault → fault ≢ Memory }
 {}
 
-/// Whatever follows bytes: the frame that they begin with stays, and they begin with no other, longer or shorter; and their fault stays, unless it is that bytes are
-/// missing.
+/// If more bytes follow, the frame that bytes begin with stays, and they begin with no other, longer or shorter; their fault stays,
+/// unless it is `Truncated`.
 pub fn a_front_stays()
     ensures frame { (bytes more : List ℕ) (frame : Frame) (n : ℕ) → n ≤ length bytes
         → Spells frame (take n bytes) → Spells frame (take n (bytes ++ more)) }
@@ -76,16 +76,16 @@ pub fn a_front_stays()
         → fault ≢ Truncated → HasFault bytes fault → HasFault (bytes ++ more) fault }
 {}
 
-/// A frame has a spelling, and so one in the version that is written, exactly where it fits the format: all that it has is within its
-/// limits, and each of its live dots is known.
+/// A frame has an encoding, and so one in the version that sites write, exactly where it fits the format: all its parts are within
+/// their limits, and each of its live dots is known.
 pub fn a_frame_that_fits_the_format_has_a_spelling()
     ensures some { (frame : Frame)
         → FitsFormat frame → (bytes : List ℕ) × SpellsIn VERSION frame bytes }
     ensures only { (frame : Frame) (bytes : List ℕ) → Spells frame bytes → FitsFormat frame }
 {}
 
-/// A frame has a spelling in the oldest version exactly where it fits the format and none of its live dots has a ring. Its spellings in any
-/// two versions are alike but for the version, the byte behind the length and the magic.
+/// A frame has an encoding in the oldest version exactly where it fits the format and none of its live dots has a ring. Its
+/// encodings in any two versions differ only in the version, the byte after the length and the magic.
 pub fn the_oldest_version_has_all_but_the_ring()
     ensures no_ring { (frame : Frame) (bytes : List ℕ)
         → SpellsIn OLDEST_VERSION frame bytes → HasNoRing frame }
@@ -95,7 +95,8 @@ pub fn the_oldest_version_has_all_but_the_ring()
         → SpellsIn v x a → SpellsIn w y b → a ≡ take 6 b ++ (v ∷ drop 7 b) }
 {}
 
-/// The frame of a knowledge fits the format, so that it has a spelling, where the knowledge fits in a frame and the frame's maker and number are within their limits.
+/// The frame of a knowledge fits the format, so that it has an encoding, if the knowledge fits in a frame and the frame's maker and
+/// number are within their limits.
 pub fn the_frame_of_a_knowledge_that_fits_has_a_spelling()
     ensures fits { (frame : Frame) (k : Knowledge) → FitsInFrame k → IsDeltaOf frame.delta k
         → IsSite frame.maker → IsCount frame.number → FitsFormat frame }

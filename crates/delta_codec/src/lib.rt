@@ -1,5 +1,5 @@
-//! Frames: how a delta is sent from one site to another, as bytes. Each frame has one spelling in each version of the format, and none
-//! begins another.
+//! Frames: deltas as bytes, to be sent from one site to another. Each frame has one encoding in each version of the format, and
+//! none is a prefix of another.
 #![tactic(auto)]
 
 mod decode_fault;

@@ -9,7 +9,7 @@ use crate::{DecodeFault, OLDEST_VERSION, VERSION};
 use dots::Text80;
 use std::marker::Model;
 
-// Bytes that are read from left to right. Contracts see those that are left.
+// Bytes that are read in order. Contracts see those that are left.
 #[derive(Drop)]
 pub(crate) struct Reader<'a> {
     left: &'a [u8],
@@ -91,7 +91,7 @@ impl<'a> Reader<'a> {
         Ok(number)
     }
 
-    // So many bytes.
+    // The next `len` bytes.
     pub(crate) fn bytes(&mut self, len: usize) -> Result<&'a [u8], DecodeFault>
         ensures value { ReturnsRead (λ x. (x.now, self.new)) result (bytes_of len self.old) }
         ensures size { IfOk result (λ x. length x.now ≡ len) }
@@ -104,7 +104,7 @@ impl<'a> Reader<'a> {
         Ok(front)
     }
 
-    // So many bytes that make a text.
+    // The next `len` bytes as a text.
     #[tactic(auto, unfolding(crate::specs::Reading::text_of))]
     pub(crate) fn text(&mut self, len: usize) -> Result<Text80, DecodeFault>
         requires { len ≤ TEXT_BYTES }

@@ -80,7 +80,7 @@ pub(crate) fn count_of(totals: &Totals) -> usize
     count
 }
 
-// How many bytes a frame with this delta has behind its length, whatever its heading, if its context has these runs.
+// How many bytes a frame with this delta has after its length, whatever its heading, if its context has these runs.
 pub(crate) fn content_size(delta: &Delta, runs: &[Run]) -> usize
     requires { length runs.now ≤ MOST_RUNS }
     ensures value { (heading : Heading)

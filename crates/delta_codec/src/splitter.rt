@@ -6,8 +6,8 @@ use held_bytes::HeldBytes;
 use std::alloc::Global;
 use std::marker::Model;
 
-/// Cuts a stream of bytes that comes in any pieces into frames (this project's own). It holds the bytes that belong to no frame yet.
-/// Each byte is moved a bounded number of times, whatever the pieces, and a frame is decoded once, when it is all there.
+/// Cuts a stream of bytes, which arrives in pieces of any size, into frames. It holds the bytes that belong to no frame yet. Each
+/// byte is moved a bounded number of times, whatever the pieces, and a frame is decoded once, when all its bytes have arrived.
 #[derive(Drop)]
 pub struct Splitter {
     alloc: Global,
@@ -23,7 +23,7 @@ impl Model for Splitter {
 }
 
 impl Splitter {
-    /// A splitter that holds nothing. It takes no memory.
+    /// An empty splitter. Takes no memory.
     pub fn new(alloc: Global) -> Splitter
         ensures { result ≡ [] }
     {
@@ -33,7 +33,7 @@ impl Splitter {
         }
     }
 
-    /// Takes the next piece of the stream, of any length. The one fault is want of memory, and then what is held is as before.
+    /// Takes the next piece of the stream, of any length. Fails only when out of memory, and then holds the same as before.
     pub fn feed(&mut self, piece: &[u8]) -> Result<(), Memory>
         ensures ok { OnOk result (self.new ≡ self.old ++ piece.now) }
         ensures err { OnErr result (self.new ≡ self.old) }
@@ -41,9 +41,9 @@ impl Splitter {
         self.bytes.append(piece)
     }
 
-    /// The next frame of the stream, taken from the front of the bytes that are held. `None` exactly where they are no whole frame
-    /// yet, and show no fault; the faults are those of `decode`, but for `Truncated` (this project's own). None and a fault change
-    /// nothing, so that a front that is at fault stays so, whatever is fed; after `Memory` the call may be made again.
+    /// The next frame of the stream, taken from the front of the held bytes. `None` exactly where they are no whole frame yet, and
+    /// show no fault. The faults are those of `decode`, except `Truncated`. `None` and a fault change nothing, so a fault of the
+    /// first bytes stays, whatever is fed; after `Memory` the call may be made again.
     pub fn next_frame(&mut self) -> Result<Option<Frame>, DecodeFault>
         ensures frame { IsNextFrame self.old result self.new }
         ensures fault { IsNextFault self.old result }

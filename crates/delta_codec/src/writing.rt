@@ -1,4 +1,4 @@
-//! The parts of a frame as bytes, each written at the end of what was written before. What is written is seen to be within its limits.
+//! Appends the parts of a frame to earlier bytes. The contracts show that what is written is within its limits.
 ghost use Rattle.std.specs.Prelude.{◌≡◌, ◌++◌, ◌≤◌, OnOk, is_some, length};
 ghost use Rattle.std.specs.List.{All, flat_map};
 ghost use Rattle.std.specs.FinMap as map;
@@ -55,7 +55,7 @@ fn put_number2(out: &mut Vec<u8>, number: u16) -> Result<(), Memory>
     out.extend_from_slice(&number.to_be_bytes())
 }
 
-// A text, behind its length.
+// A text, after its length.
 pub(crate) fn put_text(out: &mut Vec<u8>, text: &Text80) -> Result<(), Memory>
     ensures written { OnOk result (out.new.items ≡ out.old.items ++ text_bytes text.now) }
     ensures within { OnOk result (IsText text.now) }
@@ -106,7 +106,7 @@ fn flags(fields: &Fields) -> u8
     penalty + (2 * pause + (4 * label + 8 * ring))
 }
 
-// Fields, behind their flags.
+// Fields, after their flags.
 fn put_fields(out: &mut Vec<u8>, fields: &Fields) -> Result<(), Memory>
     ensures written { OnOk result (out.new.items ≡ out.old.items ++ fields_bytes fields.now) }
     ensures within { OnOk result (AreInLimits fields.now) }
@@ -159,7 +159,7 @@ fn put_total(out: &mut Vec<u8>, key: TotalKey, totals: CallTotals) -> Result<(),
     put_number8(out, totals.abandoned)
 }
 
-// Runs, one after the other.
+// Runs, in order.
 fn put_runs(out: &mut Vec<u8>, runs: &[Run]) -> Result<(), Memory>
     ensures { OnOk result (out.new.items ≡ out.old.items ++ flat_map run_bytes runs.now) }
 {
@@ -169,7 +169,7 @@ fn put_runs(out: &mut Vec<u8>, runs: &[Run]) -> Result<(), Memory>
     Ok(())
 }
 
-// The cells of a set, one after the other.
+// The cells of a set, in order.
 fn put_cells(out: &mut Vec<u8>, members: &MemberSet) -> Result<(), Memory>
     ensures written { OnOk result (out.new.items
         ≡ out.old.items ++ flat_map cell_bytes (map.entries members.now.live)) }
@@ -181,7 +181,7 @@ fn put_cells(out: &mut Vec<u8>, members: &MemberSet) -> Result<(), Memory>
     Ok(())
 }
 
-// Totals, one after the other.
+// Totals, in order.
 fn put_totals(out: &mut Vec<u8>, totals: &Totals) -> Result<(), Memory>
     ensures written { OnOk result (out.new.items
         ≡ out.old.items ++ flat_map total_bytes (map.entries totals.now.entries)) }
@@ -194,7 +194,7 @@ fn put_totals(out: &mut Vec<u8>, totals: &Totals) -> Result<(), Memory>
     Ok(())
 }
 
-// Runs, behind their number.
+// Runs, after their number.
 pub(crate) fn put_run_list(out: &mut Vec<u8>, runs: &[Run]) -> Result<(), Memory>
     requires { length runs.now ≤ MOST_RUNS }
     ensures { OnOk result (out.new.items ≡ out.old.items ++ list_bytes run_bytes runs.now) }
@@ -204,7 +204,7 @@ pub(crate) fn put_run_list(out: &mut Vec<u8>, runs: &[Run]) -> Result<(), Memory
     Ok(())
 }
 
-// The cells of a set, behind their number.
+// The cells of a set, after their number.
 pub(crate) fn put_cell_list(out: &mut Vec<u8>, members: &MemberSet) -> Result<(), Memory>
     ensures written { OnOk result (out.new.items
         ≡ out.old.items ++ list_bytes cell_bytes (map.entries members.now.live)) }
@@ -216,7 +216,7 @@ pub(crate) fn put_cell_list(out: &mut Vec<u8>, members: &MemberSet) -> Result<()
     Ok(())
 }
 
-// Totals, behind their number.
+// Totals, after their number.
 pub(crate) fn put_total_list(out: &mut Vec<u8>, totals: &Totals) -> Result<(), Memory>
     ensures written { OnOk result (out.new.items
         ≡ out.old.items ++ list_bytes total_bytes (map.entries totals.now.entries)) }
@@ -228,7 +228,7 @@ pub(crate) fn put_total_list(out: &mut Vec<u8>, totals: &Totals) -> Result<(), M
     Ok(())
 }
 
-// The letters that begin each frame, the version that is written, who made the frame, and its number.
+// The letters that begin each frame, the version that sites write, the maker of the frame, and its number.
 pub(crate) fn put_opening(out: &mut Vec<u8>, maker: SiteId, number: u64) -> Result<(), Memory>
     ensures written { OnOk result
         (out.new.items

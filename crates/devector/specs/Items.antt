@@ -2,7 +2,7 @@
 use Rattle.std.specs.Prelude.{ℕ, List, refl}
 use Rattle.std.specs.Coded.{Coded, code_by, coded×, coded_list, coded_ℕ}
 
--- what contracts see: the items in their order, and how many there is memory for
+-- what contracts see: the items in order, and how many there is memory for
 pub record Items (T : Type 0) : Type 0 where
   pub items : List T
   pub room : ℕ

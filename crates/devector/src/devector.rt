@@ -8,13 +8,13 @@ ghost use Rattle.std.specs.Vec.{vec_capacity};
 use std::alloc::{AllocError, Global};
 use std::marker::Model;
 
-/// Items of a type that can be copied, in their order, in one piece of memory, with room before them and behind them.
-/// What comes out moves the items before it or those behind it, whichever are fewer; so does what goes in, where there
-/// is room on that side.
+/// Items of a type that can be copied, in order, in one piece of memory, with room before and after them. To remove or add an item
+/// moves the items on one side of it: to remove one, those on the side with fewer; to add one, the same, if there is room on that
+/// side.
 #[derive(Drop)]
 pub struct Devector<T> {
     items: Vec<T>,
-    // So many of them are left over: they are the room before the first item.
+    // The room before the first item: the number of items in front that are not used.
     first: usize,
 }
 
@@ -33,7 +33,7 @@ impl<T> Model for Devector<T> {
     ghost invariant = { λ d. d.first ≤ vec_len d.items };
 }
 
-// Drops the first items. Where there are none to be dropped, nothing is moved.
+// Drops the first items. If there are none to drop, moves nothing.
 fn drop_front<T: Copy>(items: &mut Vec<T>, count: usize)
     requires { count ≤ vec_len items.old }
     ensures items { items.new.items ≡ drop count items.old.items }
@@ -48,7 +48,7 @@ fn drop_front<T: Copy>(items: &mut Vec<T>, count: usize)
 }
 
 impl<T: Copy> Devector<T> {
-    /// No items. It takes no memory.
+    /// No items. Takes no memory.
     pub fn new(alloc: Global) -> Self
         ensures items { result.items ≡ [] }
         ensures room { result.room ≡ 0 }
@@ -67,7 +67,7 @@ impl<T: Copy> Devector<T> {
         Devector { items, first: 0 }
     }
 
-    /// A vector of the items, in their memory. Where there is room before them, they are all moved into it.
+    /// A vector of the items, in their memory. If there is room before them, moves them all into it.
     pub fn into_vec(self) -> Vec<T>
         ensures items { result.items ≡ self.items }
         ensures capacity { vec_capacity result ≡ self.room }
@@ -82,7 +82,7 @@ impl<T: Copy> Devector<T> {
         *self.items.allocator()
     }
 
-    /// How many items there are.
+    /// The number of items.
     pub fn len(&self) -> usize
         ensures value { result ≡ length self.now.items }
         ensures fits { result ≤ self.now.room }
@@ -90,7 +90,7 @@ impl<T: Copy> Devector<T> {
         self.items.len() - self.first
     }
 
-    /// For how many items there is memory in all.
+    /// The number of items for which there is memory in all.
     pub fn room(&self) -> usize
         ensures value { result ≡ self.now.room }
         ensures fits { length self.now.items ≤ result }
@@ -114,8 +114,8 @@ impl<T: Copy> Devector<T> {
         self.items[self.first + place] = item;
     }
 
-    /// Makes room for `more` more items; the room before the first one counts too. The one fault is want of memory,
-    /// which changes nothing, and doesn't come where there is room.
+    /// Makes room for `more` more items, including the room before the first one. Fails only when out of memory, never if there is
+    /// room, and then changes nothing.
     pub fn reserve(&mut self, more: usize) -> Result<(), AllocError>
         ensures room { OnOk result (length self.old.items + more ≤ self.new.room) }
         ensures had_room { length self.old.items + more ≤ self.old.room → IsOk result }
@@ -145,8 +145,8 @@ impl<T: Copy> Devector<T> {
         }
     }
 
-    // Moves all items so that half of the free room is on each side, if that is more than 1/128 of their number: as many go
-    // in before a side is full again, so that each pays for few moves.
+    // Moves all items so that half of the free room is on each side, if that is more than 1/128 of their number: then that many
+    // can be added before a side is full again, so that few moves are needed for each.
     #[cold]
     #[inline(never)]
     fn move_to_middle(&mut self, filler: T)
@@ -165,7 +165,7 @@ impl<T: Copy> Devector<T> {
         self.first = first;
     }
 
-    // Moves all items to the middle, if that is worth it, where there is no room on the nearer side of a place.
+    // Moves all items to the middle, if that pays off, where there is no room on the nearer side of a place.
     fn make_room_near(&mut self, place: usize, filler: T)
         requires { place ≤ length self.old.items }
         ensures items { self.new.items ≡ self.old.items }
@@ -176,9 +176,9 @@ impl<T: Copy> Devector<T> {
         }
     }
 
-    /// Puts an item in at a place, in room that is there. It takes no memory. It moves the items before the place or those behind it,
-    /// whichever are fewer, where there is room on their side. Where there is none, it first moves all, so that half of the free room is
-    /// on each side, if that is more than 1/128 of their number; else it moves those on the other side.
+    /// Inserts an item at a place, in room that is there. Takes no memory. Moves the items before the place or those after it,
+    /// whichever are fewer, if there is room on their side. Otherwise it first moves all, so that half of the free room is on each
+    /// side, if that is more than 1/128 of their number; else it moves those on the other side.
     pub fn insert(&mut self, place: usize, item: T)
         requires within { place ≤ length self.old.items }
         requires room { length self.old.items < self.old.room }
@@ -197,7 +197,7 @@ impl<T: Copy> Devector<T> {
         }
     }
 
-    /// Puts an item in behind the others, as `insert` does.
+    /// Appends an item, as `insert` inserts one.
     pub fn push(&mut self, item: T)
         requires { length self.old.items < self.old.room }
         ensures items { self.new.items ≡ self.old.items ++ item ∷ [] }
@@ -206,8 +206,8 @@ impl<T: Copy> Devector<T> {
         self.insert(self.len(), item);
     }
 
-    /// Puts items in behind those that are there, in room that is there. It takes no memory. Where the room behind is
-    /// too little, those that are there are first moved to the front of the memory.
+    /// Appends items, in room that is there. Takes no memory. If the room after the last item is too small, the present items are
+    /// first moved to the front of the memory.
     pub fn append_slice(&mut self, others: &[T])
         requires { length self.old.items + length others.now ≤ self.old.room }
         ensures items { self.new.items ≡ self.old.items ++ others.now }
@@ -220,7 +220,7 @@ impl<T: Copy> Devector<T> {
         let _ = self.items.extend_from_slice(others); // there is room
     }
 
-    /// Takes out the item at a place. It moves at most half of the others.
+    /// Removes and returns the item at a place. Moves at most half of the others.
     pub fn remove(&mut self, place: usize) -> T
         requires { place < length self.old.items }
         ensures value { (d : T) → result ≡ slice_index_or self.old.items place d }
@@ -238,8 +238,7 @@ impl<T: Copy> Devector<T> {
         }
     }
 
-    /// Leaves out the items that don't pass a test. It tests each once, in their order, and moves the others to the
-    /// front of the memory.
+    /// Removes the items that don't pass a test. Tests each once, in order, and moves the others to the front of the memory.
     pub fn retain<F: FnMut(&T) -> bool>(&mut self, keep: F)
         requires { F.IsAlwaysCallable keep }
         ensures items { IsFiltered (CalledAt F.FnMut) keep self.old.items self.new.items }

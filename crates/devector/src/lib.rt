@@ -1,5 +1,5 @@
-//! A vector in one piece with room at both ends, as Boost.Container's `devector`: what comes out near an end moves only
-//! the items on that side, and so does what goes in, where there is room there.
+//! A vector in one piece with room at both ends, as Boost.Container's `devector`. To remove an item near an end moves
+//! only the items on that side; to add one does too, if there is room there.
 #![tactic(auto)]
 
 mod devector;

@@ -12,7 +12,7 @@ use Rattle.dots.proofs.DotOrder.{dots_exact, dots_total}
 number : Dot → ℕ
 number d = d.site * 1099511627776 + (d.count - 1)
 
--- so many for each site
+-- a set of dots has at most 2^40 dots for each site
 pub dots_few : (dots : set.FinSet dot_cmp) → AreDots dots → set.len dots ≤ SITES * MOST_COUNT
 unfolding number
 dots_few dots are = numbered dots_total dots_exact number 70368744177664 dots

@@ -9,7 +9,7 @@ use Rattle.std.proofs.lemmas.Map.Lookups.{exact_pairs, exact_unsigned}
 use Rattle.dots.specs.Values.{Dot}
 use Rattle.dots.specs.Orders.{dot_cmp}
 
--- it is a total order
+-- the order of dots is total
 pub dots_total : IsTotalOrder dot_cmp
 dots_total = then_total (on_total (λ (d : Dot). d.site) nat_cmp_total) (on_total (λ (d : Dot). d.count) nat_cmp_total)
 

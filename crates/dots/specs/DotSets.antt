@@ -1,4 +1,4 @@
--- Finite sets of dots, and the runs of counts that name them shortly. Counts have no greatest here.
+-- Finite sets of dots, and the runs of counts that represent them. Counts have no greatest here.
 use Rattle.std.specs.Prelude.{suc, zero, ℕ, ◌≡◌, ◌-◌, ◌≤◌, refl, Bool, true, false, not, ◌&&◌, ◌||◌, nat_eq, nat_le, nat_lt, IsTrue, List, [], ◌∷◌, ◌++◌}
 use Rattle.std.specs.List.{All, list_any}
 use Rattle.std.specs.FinSet as set

@@ -3,7 +3,7 @@ ghost use Rattle.std.specs.Prelude.{◌≡◌, ◌↔◌, IsTrue, IfOk};
 use crate::Memory;
 use std::marker::Model;
 
-/// Bytes that are kept whole, such as a report, an ActionID or a frame in a journal.
+/// Bytes that are held unchanged, such as a report, an ActionID or a frame in a journal.
 #[derive(Drop)]
 pub struct Bytes {
     held: Vec<u8>,
@@ -18,21 +18,21 @@ impl Model for Bytes {
 }
 
 impl Bytes {
-    /// Keeps the bytes of a vector. It takes no memory.
+    /// Holds the bytes of a vector. Takes no memory.
     pub fn new(held: Vec<u8>) -> Bytes
         ensures { result ≡ held.items }
     {
         Bytes { held }
     }
 
-    /// The bytes that are kept.
+    /// The bytes.
     pub fn as_slice(&self) -> &[u8]
         ensures { result.now ≡ self.now }
     {
         self.held.as_slice()
     }
 
-    /// Gives the bytes back as a vector. It takes no memory.
+    /// Returns the bytes as a vector. Takes no memory.
     pub fn into_vec(self) -> Vec<u8>
         ensures { result.items ≡ self }
     {
@@ -40,7 +40,7 @@ impl Bytes {
         held
     }
 
-    /// The same bytes once more. The one fault is want of memory.
+    /// Returns a copy. Fails only when out of memory.
     pub fn copy(&self) -> Result<Bytes, Memory>
         ensures { IfOk result (λ copy. copy ≡ self.now) }
     {
@@ -48,7 +48,7 @@ impl Bytes {
         Ok(Bytes { held })
     }
 
-    /// Whether both keep the same bytes.
+    /// Whether both hold the same bytes.
     pub fn same(&self, other: &Bytes) -> bool
         ensures { IsTrue result ↔ (self.now ≡ other.now) }
     {

@@ -1,12 +1,12 @@
 ghost use Rattle.std.specs.Prelude.{◌≡◌};
 ghost use Rattle.dots.specs.CountedCalls.{is_zero, no_calls};
 
-/// How many calls were completed, and how many abandoned (this project's own).
+/// The numbers of calls that were completed and abandoned (this project's own).
 #[derive(Clone, Copy, Debug, PartialEq, Eq)]
 pub struct CallTotals {
-    /// How many calls were completed.
+    /// The number of completed calls.
     pub completed: u64,
-    /// How many calls were abandoned.
+    /// The number of abandoned calls.
     pub abandoned: u64,
 }
 

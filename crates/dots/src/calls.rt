@@ -1,7 +1,7 @@
 ghost use Rattle.std.specs.Prelude.{◌≡◌};
 ghost use Rattle.dots.specs.CountedCalls.{same_calls};
 
-/// The calls that are counted (this project's own).
+/// The calls that are counted.
 #[derive(Clone, Copy, Debug)]
 pub enum Calls {
     /// Calls that were completed.

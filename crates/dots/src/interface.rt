@@ -33,7 +33,7 @@ impl Model for Interface {
 }
 
 impl Interface {
-    /// The interface of these bytes. Faults, in order: `TooLong` where there are more than 80; `BadByte`
+    /// The interface of these bytes. Errors, in order: `TooLong` where there are more than 80; `BadByte`
     /// where one is CR, LF or NUL; `Empty` where there are none.
     pub fn new(bytes: &[u8]) -> Result<Interface, TextFault>
         ensures within { IsOk result ↔ IsName bytes.now }
@@ -63,7 +63,7 @@ impl Interface {
         &self.text
     }
 
-    /// The same interface once more. It takes no memory.
+    /// Returns a copy. Takes no memory.
     pub fn copy(&self) -> Interface
         ensures { result ≡ self.now }
     {

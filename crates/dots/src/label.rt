@@ -2,8 +2,8 @@ ghost use Rattle.std.specs.Prelude.{◌≡◌};
 
 use crate::Text80;
 
-/// How a member is shown: the member name and the state interface of Asterisk's QueueAdd. An empty one shows
-/// the interface in its place.
+/// How a member is shown: the member name and the state interface of Asterisk's QueueAdd. If one is empty,
+/// the interface is shown instead.
 #[derive(Debug, Drop, PartialEq, Eq)]
 pub struct Label {
     /// The member name.
@@ -13,7 +13,7 @@ pub struct Label {
 }
 
 impl Label {
-    /// The same label once more. It takes no memory.
+    /// Returns a copy. Takes no memory.
     pub fn copy(&self) -> Label
         ensures { result ≡ self.now }
     {

@@ -1,5 +1,5 @@
 //! The values of Queue Sites within their limits: sites, dots, stamps, short texts, members and
-//! what is set of a member, with their orders, and bytes that are kept whole.
+//! their fields, with their orders, and bytes that are held unchanged.
 //!
 //! A value that exists is within its limits, so no crate above tests them again.
 #![tactic(auto)]

@@ -19,7 +19,7 @@ pub struct Member {
 }
 
 impl Member {
-    /// The same member once more. It takes no memory.
+    /// Returns a copy. Takes no memory.
     pub fn copy(&self) -> Member
         ensures { result ≡ self.now }
     {

@@ -4,8 +4,8 @@ ghost use Rattle.dots.specs.Values.{IsText};
 use crate::Text80;
 use std::marker::Model;
 
-/// Whether a member is paused, and the reason (Asterisk's QueuePause). One that isn't paused has an empty
-/// reason (this project's own).
+/// Whether a member is paused, and the reason (Asterisk's QueuePause). A member that isn't paused has an
+/// empty reason.
 #[derive(Drop, PartialEq, Eq)]
 pub struct Pause {
     paused: bool,
@@ -26,7 +26,7 @@ impl Model for Pause {
 }
 
 impl Pause {
-    /// Where `paused`, paused for this reason; else not paused, and the reason is dropped.
+    /// If `paused`, a pause for this reason; otherwise no pause, and the reason is dropped.
     pub fn new(paused: bool, reason: Text80) -> Pause
         ensures paused { result.paused ≡ paused }
         ensures reason { paused ≡ true → result.reason ≡ reason }
@@ -59,7 +59,7 @@ impl Pause {
         &self.reason
     }
 
-    /// The same pause once more. It takes no memory.
+    /// Returns a copy. Takes no memory.
     pub fn copy(&self) -> Pause
         ensures { result ≡ self.now }
     {

@@ -33,7 +33,7 @@ impl Model for QueueName {
 }
 
 impl QueueName {
-    /// The name of these bytes. Faults, in order: `TooLong` where there are more than 80; `BadByte`
+    /// The name of these bytes. Errors, in order: `TooLong` where there are more than 80; `BadByte`
     /// where one is CR, LF or NUL; `Empty` where there are none.
     pub fn new(bytes: &[u8]) -> Result<QueueName, TextFault>
         ensures within { IsOk result ↔ IsName bytes.now }
@@ -63,7 +63,7 @@ impl QueueName {
         &self.text
     }
 
-    /// The same name once more. It takes no memory.
+    /// Returns a copy. Takes no memory.
     pub fn copy(&self) -> QueueName
         ensures value { result ≡ self.now }
         ensures limit { IsName result }

@@ -14,8 +14,8 @@ use arrayvec::ArrayVec;
 use std::cmp::Ordering;
 use std::marker::Model;
 
-/// A short text: at most 80 bytes, none of them CR, LF or NUL (this project's own). It may be empty.
-/// Texts are ordered by their bytes, a prefix first.
+/// A short text: at most 80 bytes, none of them CR, LF or NUL. It may be empty. Texts are ordered by their
+/// bytes, a prefix first.
 #[derive(Debug, Drop, PartialEq, Eq, Hash)]
 pub struct Text80 {
     bytes: ArrayVec<u8, TEXT_BYTES>,
@@ -51,8 +51,8 @@ impl Text80 {
         }
     }
 
-    /// The text of these bytes. Faults, in order: `TooLong` where there are more than 80; `BadByte` where
-    /// one is CR, LF or NUL. `Empty` is never answered.
+    /// The text of these bytes. Errors, in order: `TooLong` where there are more than 80; `BadByte` where
+    /// one is CR, LF or NUL. Never returns `Empty`.
     pub fn new(bytes: &[u8]) -> Result<Text80, TextFault>
         ensures within { IsOk result ↔ IsText bytes.now }
         ensures value { IfOk result (λ text. text ≡ bytes.now) }
@@ -73,7 +73,7 @@ impl Text80 {
         }
     }
 
-    // The text of these bytes as a name. Faults, in order: `TooLong` where there are more than 80; `BadByte`
+    // The text of these bytes as a name. Errors, in order: `TooLong` where there are more than 80; `BadByte`
     // where one is CR, LF or NUL; `Empty` where there are none.
     pub(crate) fn of_name(bytes: &[u8]) -> Result<Text80, TextFault>
         ensures within { IsOk result ↔ IsName bytes.now }
@@ -105,7 +105,7 @@ impl Text80 {
         self.bytes.is_empty()
     }
 
-    /// The same text once more. It takes no memory.
+    /// Returns a copy. Takes no memory.
     pub fn copy(&self) -> Text80
         ensures { result ≡ self.now }
     {

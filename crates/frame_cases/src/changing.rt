@@ -1,4 +1,4 @@
-//! What is held, changed by the delta of a frame.
+//! Changes the held delta by the delta of a frame.
 use crate::saying::say_fault;
 use crate::words::{say_delta, say_rows};
 use delta::Delta;
@@ -9,7 +9,7 @@ use std::alloc::Global;
 use std::io::{self, ErrorKind, Write};
 use std::mem;
 
-// How a delta changes what is held.
+// How a delta changes the held one.
 #[derive(Clone, Copy)]
 pub(crate) enum Change {
     // It is joined, members and totals.
@@ -29,11 +29,11 @@ pub(crate) enum Change {
 enum End {
     Done,
     Refused(JoinFault),
-    // It was refused, and what came back is not what was handed over.
+    // The change was refused, and the returned delta is not the given one.
     NotBack,
 }
 
-// Changes what is held by the frame that the bytes begin with, and writes what is held then, as `say_changed_by` does.
+// Changes the held delta by the frame that the bytes begin with, and writes it, as `say_changed_by` does.
 pub(crate) fn say_changed<W: Write>(
     alloc: Global,
     out: &mut W,
@@ -47,7 +47,7 @@ pub(crate) fn say_changed<W: Write>(
     }
 }
 
-// Changes what is held by a copy of itself, and writes what is held then, as `say_changed_by` does.
+// Changes the held delta by a copy of itself, and writes it, as `say_changed_by` does.
 pub(crate) fn say_changed_by_itself<W: Write>(
     alloc: Global,
     out: &mut W,
@@ -60,9 +60,9 @@ pub(crate) fn say_changed_by_itself<W: Write>(
     }
 }
 
-// Changes what is held by a delta, and writes what is held then, with the rows that its queues show. Before it stands `refused` and the
-// fault, if the change is refused; `changed` if a refused change has changed something; and `not back` if a refused delta or set does not
-// come back as it was. Out of memory ends it where nothing was written.
+// Changes the held delta by another, and writes it, with the rows that its queues show. Before it writes `refused` and the fault,
+// if the change is refused; `changed` if a refused change has changed something; and `not back` if a refused delta or set is not
+// returned as it was. Out of memory ends it before anything is written.
 fn say_changed_by<W: Write>(
     alloc: Global,
     out: &mut W,
@@ -82,7 +82,7 @@ fn say_changed_by<W: Write>(
     say_rows(out, held.members())
 }
 
-// Writes how a change ended that was refused, and whether what is held is as it was before it.
+// Writes the result of a refused change, and whether the held delta is as it was before it.
 fn say_end<W: Write>(out: &mut W, end: End, is_kept: bool) -> io::Result<()> {
     match end {
         End::Done => Ok(()),
@@ -93,7 +93,7 @@ fn say_end<W: Write>(out: &mut W, end: End, is_kept: bool) -> io::Result<()> {
     }
 }
 
-// Changes what is held by a delta.
+// Changes the held delta by another.
 fn changed(alloc: Global, held: &mut Delta, change: Change, delta: Delta) -> End {
     if let Change::Join = change {
         return joined(held, delta);
@@ -163,7 +163,7 @@ fn set_joined(members: &mut MemberSet, others: MemberSet) -> End {
     end
 }
 
-// Makes room for a set, and absorbs it where it is prepared for it then.
+// Makes room for a set, and absorbs it if it is prepared for it then.
 fn prepared(members: &mut MemberSet, others: MemberSet) -> End {
     let end = end_of(members.prepare(&others));
     if members.prepared(&others) {

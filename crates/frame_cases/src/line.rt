@@ -1,4 +1,4 @@
-//! What the lines are.
+//! Reads lines and runs them.
 use crate::changing::{Change, say_changed, say_changed_by_itself};
 use crate::reading::{say_dots, say_raised, say_seen};
 use crate::saying::{say_front, say_stream};
@@ -8,7 +8,7 @@ use std::alloc::Global;
 use std::io::{self, ErrorKind, Write};
 use std::mem;
 
-// What is done with the bytes of a line.
+// The action of a line on its bytes.
 #[derive(Clone, Copy)]
 enum Kind {
     Frame,
@@ -19,7 +19,7 @@ enum Kind {
     Raised,
 }
 
-// Writes what a line gives. What was joined so far is held, and `new` lets nothing be held.
+// Writes the output of a line. The delta that was joined so far is held; `new` makes it empty.
 pub(crate) fn give_line<W: Write>(
     alloc: Global,
     out: &mut W,
@@ -42,7 +42,7 @@ pub(crate) fn give_line<W: Write>(
     }
 }
 
-// Writes what the bytes of a kind give that these digits spell.
+// Writes the output for the bytes of a kind that these digits spell.
 fn give_digits<W: Write>(
     alloc: Global,
     out: &mut W,
@@ -57,7 +57,7 @@ fn give_digits<W: Write>(
     }
 }
 
-// Writes what bytes of a kind give.
+// Writes the output for bytes of a kind.
 fn give_bytes<W: Write>(
     alloc: Global,
     out: &mut W,
@@ -75,7 +75,7 @@ fn give_bytes<W: Write>(
     }
 }
 
-// What is done with a line's bytes, and their digits.
+// The action of a line, and the digits of its bytes.
 fn kind_of(line: &str) -> (Kind, &str) {
     let Some((word, digits)) = line.split_once(' ') else {
         return (Kind::Frame, line);

@@ -1,5 +1,5 @@
-//! The program `frame_cases`, for tests: reads lines of frames as hexadecimal, and writes what each frame says, what streams of frames
-//! give, and what is held after frames have changed it (`docs/frames.md`, "Frames in words").
+//! The program `frame_cases`, for tests: reads lines of frames as hexadecimal, and writes what each frame says, the frames and
+//! faults of streams, and the held delta after frames have changed it (`docs/frames.md`, "Frames in words").
 #![tactic(auto)]
 
 mod changing;
@@ -22,7 +22,7 @@ fn main(rt: HostRuntime) -> io::Result<()> {
     out.flush()
 }
 
-// Writes what each line of standard input gives.
+// Writes the output of each line of standard input.
 fn give_lines<R: AllocGlobal + Input, W: Write>(
     rt: &R,
     out: &mut W,
@@ -35,7 +35,7 @@ fn give_lines<R: AllocGlobal + Input, W: Write>(
     Ok(())
 }
 
-// Writes what a line gives. Where an allocation is refused for it, `memory` and what the line gives once more.
+// Writes the output of a line. If an allocation is refused for it, writes `memory`, and retries the line.
 fn give_again<W: Write>(
     alloc: Global,
     out: &mut W,

@@ -1,4 +1,4 @@
-//! What is read of what is held: the dots of a member, and what a site has seen below a dot; and totals that are raised.
+//! Reads the held delta: the dots of a member, the dots seen below a dot, and totals that are raised.
 use crate::saying::say_fault;
 use causal_context::ContextFault;
 use delta::Delta;

@@ -1,10 +1,10 @@
-//! What frames give, alone or in a stream.
+//! Writes frames and faults, of single frames or of a stream.
 use crate::words::say_delta;
 use delta_codec::{DecodeFault, Frame, Splitter, decode, encode};
 use std::alloc::Global;
 use std::io::{self, ErrorKind, Write};
 
-// Writes what the frame says that the bytes begin with, and how many bytes stand behind it; or the fault.
+// Writes what the frame says that the bytes begin with, and the number of bytes after it; or the fault.
 pub(crate) fn say_front<W: Write>(alloc: Global, out: &mut W, bytes: &[u8]) -> io::Result<()> {
     match decode(alloc, bytes) {
         Ok((frame, len)) => {
@@ -20,8 +20,8 @@ pub(crate) fn say_front<W: Write>(alloc: Global, out: &mut W, bytes: &[u8]) -> i
     }
 }
 
-// Writes which frames and faults come of a stream, whose bytes come one by one: how many bytes had come, and then what the frame
-// says, or the fault, which comes again at each later byte.
+// Writes the frames and faults of a stream that is fed byte by byte: how many bytes were fed, and then what the frame says, or
+// the fault, which is repeated at each later byte.
 pub(crate) fn say_stream<W: Write>(alloc: Global, out: &mut W, bytes: &[u8]) -> io::Result<()> {
     let mut splitter = Splitter::new(alloc);
     for at in 0..bytes.len() {
@@ -31,8 +31,7 @@ pub(crate) fn say_stream<W: Write>(alloc: Global, out: &mut W, bytes: &[u8]) -> 
     Ok(())
 }
 
-// Writes what a stream gives once this many of its bytes have come. It writes nothing where that is
-// neither a frame nor a fault.
+// Writes the result of a stream after this number of its bytes. Writes nothing if that is neither a frame nor a fault.
 fn say_next<W: Write>(
     alloc: Global,
     out: &mut W,
@@ -52,7 +51,7 @@ fn say_next<W: Write>(
     }
 }
 
-// Writes how many bytes of a stream have come.
+// Writes the number of bytes that were fed.
 fn say_come<W: Write>(out: &mut W, come: usize) -> io::Result<()> {
     writeln!(out, "at byte {come}")
 }

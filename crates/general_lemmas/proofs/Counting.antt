@@ -112,7 +112,7 @@ module _ {K : Type 0} {R : K → K → Ordering} (o : IsTotalOrder R) (exact : s
       → set.len s + set.len t ≤ set.len u
   apart s t u sub also never = apart_by (set.len t) t s u refl sub also never
 
-  -- elements that numbers below n tell apart are at most n
+  -- a set whose elements have different numbers below n has at most n elements
   pub numbered : (f : K → ℕ) (n : ℕ) (s : set.FinSet R) → ((q : K) → set.contains s q ≡ true → f q < n)
       → ((p q : K) → set.contains s p ≡ true → set.contains s q ≡ true → f p ≡ f q → p ≡ q) → set.len s ≤ n
   numbered f zero s below tell = at (set.len s) refl
@@ -189,7 +189,7 @@ module _ {K : Type 0} {R : K → K → Ordering} (o : IsTotalOrder R) (exact : s
           let most = at_most_one_less p precise new i in
           omega (arith, e, fewer, rest, most)
 
-  -- what comes, beside what was there, of elements that are gone, is at most as many more
+  -- if each new element was there or is given by one that is gone, there are at most as many more as are gone
   pub given : (gone : set.FinSet R) (old new : set.FinSet Q)
       → ((l : L) → set.contains new l ≡ true → (set.contains old l ≡ true) ⊎ Gives gone l) → set.len new ≤ set.len old + set.len gone
   given gone old new comes = given_by (set.len gone) gone old new refl comes

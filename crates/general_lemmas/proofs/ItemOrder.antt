@@ -67,7 +67,7 @@ module _ {K : Type 0} {R : K → K → Ordering} where
   in_order_keys o exact s m same =
       same_keys o exact (map.from_entries (units (set.items s))) m (λ q. has_from o (set.items s) q ∙ sym (set.contains-items s q) ∙ same q)
 
-  -- they are the set's own
+  -- the items of a set in order are exactly the set's
   pub in_order_has : IsTotalOrder R → (s : set.FinSet R) (q : K) → list_any (eq_by_cmp R q) (in_order s) ≡ set.contains s q
   in_order_has o s q =
       sym (map.contains_key-keys (map.from_entries (units (set.items s))) q) ∙ has_from o (set.items s) q ∙ sym (set.contains-items s q)
@@ -81,7 +81,7 @@ module _ {K : Type 0} {R : K → K → Ordering} where
       in_order_keys o exact s (map.from_sorted (units ks)) (λ q. same q ∙ ap (list_any (eq_by_cmp R q)) (sym keys) ∙ sym (map.contains_key-keys (map.from_sorted (units ks)) q))
       ∙ keys
 
-  -- they rise
+  -- the items of a set in order are sorted
   pub in_order_rises : (s : set.FinSet R) → map.is_sorted R (units (in_order s)) ≡ true
   in_order_rises s =
       let m : map.FinMap R (Unit {0}) = map.from_entries (each (λ k. (k, tt)) (set.items s)) in

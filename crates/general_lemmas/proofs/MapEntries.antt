@@ -33,7 +33,7 @@ module _ {K V : Type 0} (R : K → K → Ordering) (total : IsTotalOrder R) wher
       | inr f ↦ later_in e es (q, v) (found_in q v es (ap (λ b. cond b (Some e.1) (find R q es)) (sym f) ∙ h))
     ]
 
-    -- and what the map gives is an entry
+    -- a value of the map is that of an entry
     pub entry_in : (m : map.FinMap R V) (q : K) (v : V) → map.get m q ≡ Some v → Contains (map.entries m) (q, v)
     entry_in m q v h = found_in q v (map.entries m) (sym (map.get-entries m q) ∙ h)
 

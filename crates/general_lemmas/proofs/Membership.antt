@@ -31,7 +31,7 @@ any_in p (y ∷ ys) x h q = elim (cases_in y ys x h) [
   | inr r ↦ ap (λ b. p y || b) (any_in p ys x r q) ∙ or-true (p y)
 ]
 
--- and one that does
+-- an element that passes a test, where one does
 pub in_any : {X : Type 0} (p : X → Bool) (xs : List X) → list_any p xs ≡ true → (x : X) × Contains xs x × (p x ≡ true)
 in_any p [] h = absurd (true≢false (sym h))
 in_any {X} p (x ∷ xs) h = by (p x) refl (in_any p xs) h

@@ -44,7 +44,7 @@ module _ {K V : Type 0} (R : K → K → Ordering) (total : IsTotalOrder R) wher
       let parts = and_parts (is_lt (R b e.0)) (below_all R b es) h in
       and_from (is_lt (R a e.0)) (below_all R a es) (ap is_lt (total.trans a b e.0 less (less_of _ parts.0))) (below_from a b es less parts.1)
 
-  -- and what lies before the first key lies before all
+  -- a key before the first key is before all
   pub below_first : (a : K) (e : K × V) (es : List (K × V)) → R a e.0 ≡ Less → IsRising R (e ∷ es) → below_all R a (e ∷ es) ≡ true
   below_first a e es less h = and_from (is_lt (R a e.0)) (below_all R a es) (ap is_lt less) (below_from a e.0 es less (rising_head e es h))
 
@@ -73,7 +73,7 @@ module _ {K V : Type 0} (R : K → K → Ordering) (total : IsTotalOrder R) wher
   find_self : (key : K) (e : K × V) (es : List (K × V)) → e.0 ≡ key → find R key (e ∷ es) ≡ Some e.1
   find_self key e es is = ap (λ k. cond (eq_by_cmp R key k) (Some e.1) (find R key es)) is ∙ ap (λ o. cond (is_eq o) (Some e.1) (find R key es)) (tied_itself total key)
 
-  -- and passed over by another
+  -- a search for another key passes an entry
   find_other : (key : K) (e : K × V) (es : List (K × V)) (o : Ordering) → R key e.0 ≡ o → is_eq o ≡ false → find R key (e ∷ es) ≡ find R key es
   find_other key e es o p q = ap (λ b. cond b (Some e.1) (find R key es)) (ap is_eq p ∙ q)
 
@@ -147,7 +147,7 @@ module _ {K V : Type 0} (R : K → K → Ordering) (total : IsTotalOrder R) wher
       greater_not_less (R (get_or es (k + 1) d).0 (get_or es k d).0)
       (less_back R total (get_or es k d).0 (get_or es (k + 1) d).0 (rising_at es h k (k + 1) d (omega arith) (omega arith))))
 
-  -- it ends at the key, or at the gap for it
+  -- a search ends at the key, or at the place where it would be
   pub searched_at : IsAntisymmetric R → (es : List (K × V)) (key : K) (r : Result ℕ ℕ) → IsSearchInRange r (length es) → IsBinarySearchResult (λ e. R e.0 key) es r → IfOk r (IsAt es key)
   searched_at exact es key (Ok at) in_range equal = record { in_range = in_range; has_key = λ d. exact _ _ (equal d) }
   searched_at exact es key (Err at) in_range parted = tt

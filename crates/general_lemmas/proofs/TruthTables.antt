@@ -28,7 +28,7 @@ pub third_alone : (a c : Bool) → ((a && false) || c) ≡ c
 third_alone true c = refl
 third_alone false c = refl
 
--- what the test of an order tells
+-- the result of the test of an order
 pub less_of : (o : Ordering) → is_lt o ≡ true → o ≡ Less
 less_of Less h = refl
 less_of Equal h = (cc)

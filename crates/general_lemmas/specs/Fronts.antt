@@ -3,8 +3,8 @@ use Rattle.std.specs.Prelude.{List, [], ◌∷◌}
 use Rattle.std.specs.declared.cmp.Ordering.{Ordering}
 use Rattle.std.specs.declared.cmp.Ordering.TheVariants.{Less, Greater}
 
--- how the front of a first list is ordered to that of a second; `Less` where the second alone is
--- empty, `Greater` where the first is
+-- the order of the first elements of two lists; `Less` if only the second is empty, `Greater` if
+-- the first is
 abbrev pub next_by : {X : Type 0} → (X → X → Ordering) → List X → List X → Ordering
 next_by {X} order [] others = Greater
 next_by {X} order (x ∷ xs) [] = Less

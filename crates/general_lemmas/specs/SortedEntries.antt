@@ -4,7 +4,7 @@ use Rattle.std.specs.declared.cmp.Ordering.{Ordering}
 use Rattle.std.specs.declared.cmp.Ordering.TheVariants.{Less, Greater}
 use Rattle.std.specs.FinMap as map
 
--- the keys of `entries` rise in `order`, so no key stands twice
+-- the keys of `entries` are sorted by `order`, without duplicates
 abbrev pub IsRising : {K V : Type 0} → (K → K → Ordering) → List (K × V) → Type 0
 IsRising order entries = map.is_sorted order entries ≡ true
 

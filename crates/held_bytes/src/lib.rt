@@ -1,4 +1,5 @@
-//! Bytes that are held until they are taken from the front, as those of a stream that comes in pieces.
+//! Bytes that are held until they are taken from the front, as those of a stream that arrives in
+//! pieces.
 #![tactic(auto)]
 
 ghost use Rattle.std.specs.Prelude.{◌≡◌, ◌≤◌, [], ◌++◌, drop, length, vec_len, OnErr, OnOk};
@@ -7,12 +8,12 @@ pub use std::alloc::AllocError as Memory;
 use std::alloc::Global;
 use std::marker::Model;
 
-/// Bytes in their order: pieces come behind them, and what is used is taken from the front. Each byte
-/// is moved a bounded number of times, whatever the pieces are.
+/// Bytes in order: pieces are appended, and used bytes are taken from the front. Each byte is moved a
+/// bounded number of times, whatever the pieces are.
 #[derive(Drop)]
 pub struct HeldBytes {
     bytes: Vec<u8>,
-    // So many of them are taken.
+    // The number of them that are taken.
     taken: usize,
 }
 
@@ -37,7 +38,7 @@ fn drop_front(bytes: &mut Vec<u8>, count: usize)
 }
 
 impl HeldBytes {
-    /// None are held. It takes no memory.
+    /// None are held. Takes no memory.
     pub fn new(alloc: Global) -> HeldBytes
         ensures { result ≡ [] }
     {
@@ -54,7 +55,7 @@ impl HeldBytes {
         &self.bytes[self.taken..]
     }
 
-    /// Adds a piece at the end. The one fault is want of memory, and then they are as before.
+    /// Appends a piece. Fails only when out of memory, and then changes nothing.
     pub fn append(&mut self, piece: &[u8]) -> Result<(), Memory>
         ensures ok { OnOk result (self.new ≡ self.old ++ piece.now) }
         ensures err { OnErr result (self.new ≡ self.old) }
@@ -67,7 +68,7 @@ impl HeldBytes {
         self.bytes.extend_from_slice(piece)
     }
 
-    /// Takes so many from the front.
+    /// Takes the first `count` bytes.
     pub fn take_front(&mut self, count: usize)
         requires { count ≤ length self.old }
         ensures { self.new ≡ drop count self.old }

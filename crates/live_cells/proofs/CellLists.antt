@@ -32,7 +32,7 @@ below_at = rising.below_at dot_cmp dots_total dots_exact (λ c. c.dot) holding
 pub below_from : (d x : Dot) (cs : List LiveDot) → is_lt (dot_cmp d x) ≡ true → below_all dot_cmp x (entries_of cs) ≡ true → below_all dot_cmp d (entries_of cs) ≡ true
 below_from = rising.below_from dot_cmp dots_total dots_exact (λ c. c.dot) holding
 
--- those before a dot come first
+-- the cells before a dot come first
 pub partitioned : (d : Dot) (cs : List LiveDot) → Rise cs → IsPartitionedBy (λ c. is_lt (dot_cmp c.dot d)) cs
 partitioned = rising.partitioned dot_cmp dots_total dots_exact (λ c. c.dot) holding
 

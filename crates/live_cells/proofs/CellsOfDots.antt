@@ -82,7 +82,7 @@ module _ (dots : List Placed) (held : CellMap) (there : AreThere held dots) wher
   cell_there k p c l =
       ap (maps.get held) (sym (get_or-map (λ x. x.id) dots k p p.id l)) ∙ given_at (λ id. maps.get held id) (ids_of dots) k p.id c all_held (omega (arith, length-map dots (λ x. x.id)))
 
-  -- and has the dot there
+  -- the cell at a place has the dot at that place
   pub dot_there : (k : ℕ) (p : Placed) (c : LiveDot) → k < length dots → (get_or cells k c).dot ≡ (get_or dots k p).dot
   dot_there k p c l = same_some (get_or cells k c).dot (get_or dots k p).dot (ap (option_map (λ x. x.dot)) (sym (cell_there k p c l)) ∙ there k p l)
 
@@ -104,7 +104,7 @@ module _ (dots : List Placed) (held : CellMap) (there : AreThere held dots) wher
     after = λ c l. let m : i < length dots = omega (arith, as_long) in ap (λ x. is_lt (dot_cmp d x)) (dot_there i p c m) ∙ h p m;
   }
 
-  -- and the other way round
+  -- a place and a gap among the cells is one among the dots
   pub ahead_dots : (d : Dot) (i : ℕ) (c : LiveDot) → i ≤ length dots → AllWithin (λ x. is_lt (dot_cmp x.dot d) ≡ true) cells 0 i → Ahead d dots i
   ahead_dots d i c w a k p lo hi = ap (λ x. is_lt (dot_cmp x d)) (sym (dot_there k p c (omega arith))) ∙ a k c lo hi
 

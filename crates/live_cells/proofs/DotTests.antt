@@ -12,7 +12,7 @@ use Rattle.live_cells.proofs.Rising as rising
 pub turned : (a b : Dot) → is_lt (dot_cmp a b) ≡ true → dot_cmp b a ≡ Greater
 turned = rising.turned dot_cmp dots_total dots_exact
 
--- so the two aren't one
+-- two dots of which one precedes the other differ
 pub apart : (a b : Dot) → is_lt (dot_cmp a b) ≡ true → eq_by_cmp dot_cmp b a ≡ false
 apart = rising.apart dot_cmp dots_total dots_exact
 
@@ -36,7 +36,7 @@ one_dot = rising.one_key dot_cmp dots_total dots_exact
 pub after : (a b : Dot) → a ≢ b → is_lt (dot_cmp a b) ≡ false → is_lt (dot_cmp b a) ≡ true
 after = rising.after dot_cmp dots_total dots_exact
 
--- what the program's test of two dots tells
+-- the result of the program's test of two dots
 pub told_apart : (a d : Dot) (b : Bool) → b ≡ not (nat_eq a.site d.site && nat_eq a.count d.count) → b ≡ true → d ≢ a
 told_apart a d b e h same = split (eq_by_cmp dot_cmp d a) (same_tied d a same) (sym h ∙ e ∙ ap not (sym (same_dot d a)))
   where

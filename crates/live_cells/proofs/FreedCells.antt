@@ -48,7 +48,7 @@ filter_both {X} p q both is (x ∷ xs) = ap (λ b. cond b (x ∷ filter both xs)
     by true false e r = r ∙ ap (λ c. cond c (x ∷ filter q (filter p xs)) (filter q (filter p xs))) (sym e)
     by false b e r = r
 
--- where one alone fails a test, it is taken out
+-- if exactly one element fails a test, the filter removes it
 filter_others : {X : Type 0} (q : X → Bool) (xs : List X) (j : ℕ) → j < length xs → ((d : X) → q (get_or xs j d) ≡ false) → ((k : ℕ) (d : X) → k < length xs → k ≢ j → q (get_or xs k d) ≡ true) → filter q xs ≡ remove xs j
 filter_others q [] j l f a = absurd (omega (arith, l))
 filter_others q (x ∷ xs) zero l f a =
@@ -62,7 +62,7 @@ pub record Freeing (dots : List Placed) (held : CellMap) (spent : IdSet) (i : �
   pub freed : AreFreed dots held spent after now
   pub left : (k : ℕ) (d : Placed) → i ≤ k → k < length dots → maps.get after (get_or dots k d).id ≡ maps.get held (get_or dots k d).id
 
--- those that pass a test of the first ones have no cell
+-- of the first ids, those that pass a test have no cell
 abbrev pub ChosenBefore : (Dot → Bool) → List Placed → CellMap → ℕ → CellMap → Type 0
 ChosenBefore test dots held i after = (k : ℕ) (d : Placed) → k < i → maps.get after (get_or dots k d).id ≡ (if test (get_or dots k d).dot then None else maps.get held (get_or dots k d).id)
 
@@ -96,7 +96,7 @@ module _ (dots : List Placed) (held : CellMap) (spent : IdSet) (a : ArePlaced do
       | inr n ↦ c k d (omega arith)
     ]
 
-    -- or freed
+    -- the next cell is freed
     module _ (p : Placed) (l : i < length dots) (is : p ≡ get_or dots i p) where
       abbrev less : CellMap
       less = maps.remove after p.id

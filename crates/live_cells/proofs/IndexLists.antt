@@ -47,7 +47,7 @@ not_before held id other h = ap is_lt ((options_total listed_total).antisymm (op
 abbrev entry_of : CellMap → Id → Listed
 entry_of held id = option_map_or listing (maps.get held id) (entry (record { queue = 0; interface = [] }) (record { site = 0; count = 0 }))
 
--- so the entries of held ids are made of each
+-- the entries of held ids are those of each id
 listed_each : (held : CellMap) (ids : List Id) → AreHeld held ids → listed_at held ids ≡ each (entry_of held) ids
 listed_each held [] a = refl
 listed_each held (id ∷ ids) a =
@@ -90,7 +90,7 @@ module _ (s : PlacedState) (members : List Id) (placed : IsPlaced s) (same : IsP
       IsDistinct-IsPermutation (eq_by_cmp listed_cmp) (eq_by_cmp_equiv listed_total).symm (listed_at s.held (ids_of s.dots)) listed moved
       (distinct (cells_of s) (rise s.dots s.held s.spent placed))
 
-  -- and rise where they are sorted
+  -- the entries of ids are sorted if the ids are
   pub rises_sorted : IsSorted (id_order s.held) members → Rises listed
   rises_sorted sorted = rising.rise_steps listed_cmp listed_total listed_exact (λ l. l) (λ l. tt) listed (λ k l w.
       let n = as_long s.held members held_moved in

@@ -23,7 +23,7 @@ use Rattle.live_cells.specs.ShownRows.{group, is_own}
 use Rattle.live_cells.proofs.Indexes.{partitioned_by}
 use Rattle.live_cells.proofs.MemberOrder.{by_members, less_upto, own_before, own_between, own_past}
 
--- those of lesser members come first, and so do those of members that aren't greater
+-- the entries of lesser members come first, and so do those of members that aren't greater
 pub lesser_first : (m : Member) (ls : List Listed) → Rises ls → IsPartitionedBy (λ l. is_lt (member_cmp l.member m)) ls
 lesser_first m = partitioned_by (λ l. is_lt (member_cmp l.member m)) (λ a b h k. elim (by_members a b h) [
   | inl l ↦ ap is_lt (members_total.trans a.member b.member m l (less_of _ k))
@@ -36,7 +36,7 @@ upto_first m = partitioned_by (λ l. is_le (member_cmp l.member m)) (λ a b h k.
   | inr e ↦ ap (λ x. is_le (member_cmp x m)) e ∙ k
 ])
 
--- so no later entry has a lesser member
+-- no later entry has a lesser member
 pub not_lesser : (ls : List Listed) (i j : ℕ) (e : Listed) → Rises ls → i ≤ j → j < length ls → is_lt (member_cmp (get_or ls j e).member (get_or ls i e).member) ≡ false
 not_lesser ls i j e r l w = elim (cases_Bool (is_lt (member_cmp (get_or ls j e).member (get_or ls i e).member))) [
   | inl t ↦ absurd (let x = ap is_lt (sym (tied_itself members_total (get_or ls i e).member)) ∙ lesser_first (get_or ls i e).member ls r i j e l w t in cc)
@@ -63,7 +63,7 @@ kept_between p (x ∷ xs) (suc i) n a b c w =
 abbrev pub Lesser : Member → List Listed → ℕ → Type 0
 Lesser m ls i = IsPartitionPoint (λ l. is_lt (member_cmp l.member m) ≡ true) (λ l. is_lt (member_cmp l.member m) ≡ false) ls i
 
--- and so for those of members that aren't greater
+-- entries of members that aren't greater come before a place, and none from there on
 abbrev pub Upto : Member → List Listed → ℕ → Type 0
 Upto m ls j = IsPartitionPoint (λ l. is_le (member_cmp l.member m) ≡ true) (λ l. is_le (member_cmp l.member m) ≡ false) ls j
 

@@ -43,7 +43,7 @@ rises_head = rising.rise_head listed_cmp listed_total listed_exact (λ x. x) (λ
 pub below_from : (l x : Listed) (ls : List Listed) → is_lt (listed_cmp l x) ≡ true → IsBelow x ls → IsBelow l ls
 below_from = rising.below_from listed_cmp listed_total listed_exact (λ x. x) (λ x. tt)
 
--- those that pass a test come first, where each that lies before one that passes it passes it
+-- the entries that pass a test come first, if each entry before a passing one passes
 pub partitioned_by : (p : Listed → Bool) → ((a b : Listed) → is_lt (listed_cmp a b) ≡ true → p b ≡ true → p a ≡ true) → (ls : List Listed) → Rises ls → IsPartitionedBy p ls
 partitioned_by = rising.partitioned_by listed_cmp listed_total listed_exact (λ x. x) (λ x. tt)
 

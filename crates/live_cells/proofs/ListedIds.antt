@@ -68,7 +68,7 @@ module _ (held : CellMap) (ids : List Id) (a : AreHeld held ids) where
   pub told_entries : (p : Listed → Bool) (b : Bool) (low high : ℕ) → high ≤ length ids → AllWithin (λ id. told p id ≡ b) ids low high → AllWithin (λ l. p l ≡ b) listed low high
   told_entries p b low high w h k l lo hi = sym (told_there p k (id_of 0 0) l (omega arith)) ∙ h k (id_of 0 0) lo hi
 
-  -- those before an entry come first
+  -- the ids before an entry come first
   pub before_first : (l : Listed) → Rises listed → IsPartitionedBy (told (λ x. is_lt (listed_cmp x l))) ids
   before_first l r = partitioned_ids (λ x. is_lt (listed_cmp x l)) (rising.partitioned listed_cmp listed_total listed_exact (λ x. x) (λ x. tt) l listed r)
 

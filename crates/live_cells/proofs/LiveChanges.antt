@@ -58,7 +58,7 @@ module _ (s t : PlacedState) (a : IsPlaced s) (i : ℕ) (cell : LiveDot) (id : I
     lesser = lesser;
   }
 
--- and is in the index
+-- one more dot is in the index
 module _ (s t : PlacedState) (members : List Id) (x : AreIndexed s members) (i : ℕ) (cell : LiveDot) (id : Id) (gap : IsGap (cells_of s) cell.dot i) (free : maps.get s.held id ≡ None) (h : t.held ≡ maps.insert s.held id cell) where
   held_more : AreHeld t.held members
   held_more = subst (λ m. AreHeld m members) (sym h) (still_held s.held id cell members free x.held)

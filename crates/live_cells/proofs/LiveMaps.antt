@@ -104,7 +104,7 @@ module _ (dots : List Placed) (held : CellMap) (spent : IdSet) (a : ArePlaced do
   pub live_here : (d : Dot) (i : ℕ) (c : LiveDot) → IsCellAt cells d i → maps.get (live_of cells) d ≡ Some (holding (get_or cells i c))
   live_here d i c at = get_live_of cells d rise ∙ found_at d cells i c rise at.within (at.here c)
 
-  -- and of one that isn't
+  -- a dot that isn't placed has no id
   pub no_id : (d : Dot) (i : ℕ) → IsGap cells d i → maps.get (ids_by dots) d ≡ None
   no_id d i gap =
       let w : i ≤ length dots = let v = gap.within in omega (arith, as_long dots held a.there) in

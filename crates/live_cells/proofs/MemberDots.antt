@@ -59,7 +59,7 @@ own_ascend m (l ∷ ls) r = elim (cases_Bool (is_own m l)) [
   | inr f ↦ ap (λ b. is_sorted dot_cmp (units (dots_listed (cond b (l ∷ group m ls) (group m ls))))) f ∙ own_ascend m ls (rises_tail l ls r)
 ]
 
--- they are those that are listed under the member
+-- the dots of a member's entries are those listed under the member
 own_listed : (m : Member) (q : Dot) (ls : List Listed) → list_any (eq_by_cmp dot_cmp q) (dots_listed (group m ls)) ≡ is_listed ls m q
 own_listed m q [] = refl
 own_listed m q (l ∷ ls) = elim (cases_Bool (is_own m l)) [
@@ -90,7 +90,7 @@ units_kept p (d ∷ ds) = ap (λ es. cond (p d) ((d, tt) ∷ es) es) (units_kept
 kept_ascend : (p : Dot → Bool) (ds : List Dot) → Ascend ds → Ascend (filter p ds)
 kept_ascend p ds a = ap (is_sorted dot_cmp) (sym (units_kept p ds)) ∙ fact _ (is_sorted-where_key dot_cmp p (units ds) (truth _ a))
 
--- the live dots in their order are those of the cells
+-- the live dots in order are those of the cells
 keys_entries : (cs : List LiveDot) → each (λ e. e.0) (entries_of cs) ≡ each (λ c. c.dot) cs
 keys_entries [] = refl
 keys_entries (c ∷ cs) = ap (λ ks. c.dot ∷ ks) (keys_entries cs)

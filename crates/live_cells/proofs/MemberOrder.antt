@@ -60,7 +60,7 @@ by_members a b h = split (member_cmp a.member b.member) refl h
     split Equal e k = inr (exact_members a.member b.member e)
     split Greater e k = absurd (cc)
 
--- and the dots of one member do so
+-- of two listed dots of one member, the dots are in the order of their entries
 pub by_dots : (a b : Listed) → a.member ≡ b.member → is_lt (listed_cmp a b) ≡ true → is_lt (dot_cmp a.dot b.dot) ≡ true
 by_dots a b e h = ap (λ o. is_lt (ordering_then o (dot_cmp a.dot b.dot))) (sym (ap (member_cmp a.member) (sym e) ∙ tied_itself members_total a.member)) ∙ h
 

@@ -22,7 +22,8 @@ read_twice xs i x y l x_is y_is = x_is ∙ get_or_default xs i x y l ∙ sym y_i
 abbrev pub IsBelow : {X : Type 0} → (X → X → Ordering) → X → List X → Type 0
 IsBelow cmp x ys = AllByRecursion (λ y. cmp x y ≡ Less) ys
 
--- so many of the one list stand where they stood, so many of the others are left, and what was merged stands behind both
+-- the first `kept` elements of `own` stand where they stood, the first `left` of `others` are not merged yet, and the merged ones
+-- stand after both
 pub record Merging {X : Type 0} (cmp : X → X → Ordering) (own others : List X) (kept left : ℕ) (now : List X) : Type 0 where
   pub long : length now ≡ length own + length others
   pub kept_in : kept ≤ length own
@@ -168,7 +169,7 @@ module _ {X : Type 0} (cmp : X → X → Ordering) (o : IsTotalOrder cmp) where
   regroup [] ys zs = refl
   regroup (x ∷ xs) ys zs = ap (λ l. x ∷ l) (regroup xs ys zs)
 
-  -- where none of the others is left, all are there
+  -- if none of the others is left, all elements are there
   pub merged_all : (own others now : List X) (kept left : ℕ) → left ≡ 0 → Merging cmp own others kept left now → IsPermutation (own ++ others) now
   merged_all own others now kept left none m =
       let at : kept + left ≡ kept = omega arith in
@@ -193,7 +194,7 @@ module _ {X : Type 0} (cmp : X → X → Ordering) (o : IsTotalOrder cmp) where
     | inr more ↦ let e : j ≡ i = omega arith in subst (λ n. IsBelow cmp (get_or xs n d) ys) e b
   ]
 
-  -- and all rise
+  -- if none of the others is left, the merged list is sorted
   pub merged_rises : (own others now : List X) (kept left : ℕ) → left ≡ 0 → IsStrictlySortedBy cmp own → Merging cmp own others kept left now → IsStrictlySortedBy cmp now
   merged_rises own others now kept left none r m =
       let at : kept + left ≡ kept = omega arith in

@@ -56,7 +56,7 @@ found_in (p ∷ ps) d id e = elim (cases_Bool (eq_by_cmp dot_cmp d p.dot)) [
   | inr f ↦ later_in p ps (record { dot = d; id = id }) (found_in ps d id (ap (λ b. cond b (Some p.id) (find dot_cmp d (id_entries ps))) (sym f) ∙ e))
 ]
 
--- and what is among them is found
+-- a dot among them is found with its id
 in_found : (ps : List Placed) (p : Placed) → Rise ps → Contains ps p → find dot_cmp p.dot (id_entries ps) ≡ Some p.id
 in_found ps p r (k, l, is) = found_at p.dot ps k p r l (sym (ap (λ x. x.dot) is)) ∙ ap (λ x. Some x.id) is
 
@@ -84,7 +84,7 @@ module _ (others : List Placed) (there : CellMap) (gone : IdSet) (b : ArePlaced 
       apart_by id_cmp ids_total ids_exact (get_or ids i id) (get_or ids j id) (apart_from_distinct (eq_by_cmp id_cmp) ids i j id differ l (omega (arith, as_many_arrived)))
       (same_some _ _ (sym (id_there i d id (omega arith)) ∙ ap (λ x. find dot_cmp x (id_entries others)) same ∙ id_there j d id n))))
 
-  -- so they rise once they are sorted
+  -- the moved dots are in ascending order once they are sorted
   module _ (sorted : List Placed) (same : IsPermutation arrived sorted) (order : IsSortedByKey (λ p. p.dot) dot_cmp sorted) where
     sorted_differ : IsDistinct (eq_by_cmp placed_cmp) sorted
     sorted_differ = IsDistinct-IsPermutation (eq_by_cmp placed_cmp) (eq_by_cmp_equiv placed_total).symm arrived sorted same arrived_differ

@@ -39,7 +39,7 @@ module _ (held : CellMap) (ids : List Id) (a : AreHeld held ids) where
   sorted_rises r = rises_by (id_order held) (ids_ordered held) ids (λ i j d l m.
       order_there i j d (omega arith) m ∙ less_of _ (rising.earlier listed_cmp listed_total listed_exact (λ x. x) (λ x. tt) (listed_at held ids) i j none none r l (omega (arith, m, as_long held ids a))))
 
-  -- and the other way round
+  -- the entries of sorted ids are sorted
   pub rises_sorted : IsStrictlySortedBy (id_order held) ids → Rises (listed_at held ids)
   rises_sorted s = rising.rise_steps listed_cmp listed_total listed_exact (λ x. x) (λ x. tt) (listed_at held ids) (λ k e l.
       let n = as_long held ids a in
@@ -48,7 +48,7 @@ module _ (held : CellMap) (ids : List Id) (a : AreHeld held ids) where
       (λ i. is_lt (listed_cmp (get_or_default (listed_at held ids) k e none (omega arith) i) (get_or_default (listed_at held ids) (suc k) e none l i)))
       ∙ ap is_lt (sym (order_there k (suc k) d (omega arith) within) ∙ lies_before (id_order held) (ids_ordered held) ids k (suc k) d d s (omega arith) within))
 
-  -- so no two of them are one
+  -- no two of the ids are equal
   pub ids_differ : Rises (listed_at held ids) → IsDistinct (eq_by_cmp id_cmp) ids
   ids_differ r = IsDistinct-from_apart (eq_by_cmp id_cmp) ids (λ i j d l m. untied id_cmp ids_total ids_exact (get_or ids i d) (get_or ids j d) (λ same.
       rising.keys_differ listed_cmp listed_total listed_exact (λ x. x) (λ x. tt) (listed_at held ids) i j none none r l (omega (arith, m, as_long held ids a))

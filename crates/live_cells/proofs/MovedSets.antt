@@ -131,7 +131,7 @@ module _ (s : PlacedState) (own : List Id) (x : AreIndexed s own) (t : PlacedSta
         let here : is_placed s.dots c.0.dot ≡ true = placed_found s.dots c.0.dot ∙ ap is_some (x.placed.alone i c.0 c.1) in
         true≢false (sym here ∙ ap (is_placed s.dots) (sym one ∙ d.2 ∙ sym from.is) ∙ none_placed from.id from.cell from.held)
 
-    -- they are placed with those that were here
+    -- the moved cells are placed with those that were here
     module _ (v : IsPlaced u) where
       still_live : (q : Dot) (h : Holding) → maps.get (live_of (cells_of s)) q ≡ Some h → maps.get (live_of (cells_of u)) q ≡ Some h
       still_live q h e =

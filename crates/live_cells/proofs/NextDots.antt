@@ -19,14 +19,14 @@ module _ (dots : List Placed) (from : Dot) (i : ℕ) (x : Placed) (s : Rise dots
   other : eq_by_cmp dot_cmp from x.dot ≡ false → from ≢ x.dot
   other f e = true≢false (sym (same_tied from x.dot e) ∙ f)
 
-  -- it has no lesser count
+  -- the next dot has no lesser count
   pub no_less : from.count ≤ x.dot.count
   no_less = elim (cases_Bool (eq_by_cmp dot_cmp from x.dot)) [
     | inl t ↦ let e = ap (λ d. d.count) (one_dot from x.dot t) in omega arith
     | inr f ↦ let m = next_dot dots from i x s l before at_x (beyond dots from i x l at_x after (other f)) same in omega arith
   ]
 
-  -- and none is live between
+  -- no dot is live between the count and the next dot
   pub none_between : (n : ℕ) → from.count ≤ n → n < x.dot.count → is_placed dots (record { site = from.site; count = n }) ≡ false
   none_between n lo hi = elim (cases_Bool (eq_by_cmp dot_cmp from x.dot)) [
     | inl t ↦ let e = ap (λ d. d.count) (one_dot from x.dot t) in absurd (omega arith)
@@ -36,7 +36,7 @@ module _ (dots : List Placed) (from : Dot) (i : ℕ) (x : Placed) (s : Rise dots
   itself_here : is_placed dots x.dot ≡ true
   itself_here = any_in (λ p. eq_by_cmp dot_cmp x.dot p.dot) dots x (subst (Contains dots) (sym at_x) (Contains-get_or dots i x l)) (same_itself x.dot)
 
-  -- so it is the first
+  -- the next dot is the first live one from the count on
   pub first_in : (site first last : ℕ) → from.site ≡ site → from.count ≡ first → x.dot.count ≤ last → IsFirstIn dots site first last x.dot
   first_in site first last at f m = record {
     here = itself_here;

@@ -68,7 +68,7 @@ module _ (dots : List Placed) (d : Dot) (i : ℕ) (x : Placed) (s : Rise dots) (
     pub next_dot : x.dot.site ≡ d.site → d.count < x.dot.count
     next_dot same = more_on d.site x.dot.site x.dot.count d.count same (sym (lt_dots d x.dot) ∙ after)
 
--- what a test of two sites tells
+-- the result of a test of two sites
 pub differs : (a b : ℕ) → not (nat_eq a b) ≡ true → a ≡ b → ⊥
 differs a b h e = absurd (let n : not (nat_eq a b) ≡ false = grind (arith, nat_tests, e) in cc)
 

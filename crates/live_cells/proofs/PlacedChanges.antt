@@ -42,7 +42,7 @@ pub still_held : (held : CellMap) (id : Id) (cell : LiveDot) (ids : List Id) →
 still_held held id cell ids free a =
     All-weaker (λ q. is_some (maps.get held q) ≡ true) (λ q. is_some (maps.get (maps.insert held id cell) q) ≡ true) (λ q h. ap is_some (got_other id_cmp ids_total ids_exact held id cell q (other_id held id q free h)) ∙ h) ids a
 
--- and one id more
+-- the cells of ids after one more id is inserted
 pub cells_more : (held : CellMap) (id : Id) (cell : LiveDot) (ids : List Id) (i : ℕ) → maps.get held id ≡ None → AreHeld held ids → cells_at (maps.insert held id cell) (insert ids i id) ≡ insert (cells_at held ids) i cell
 cells_more held id cell ids i free a =
     given_insert (λ q. maps.get (maps.insert held id cell) q) ids i id cell (still_held held id cell ids free a) (got id_cmp ids_total ids_exact held id cell)

@@ -29,7 +29,7 @@ module _ {X : Type 0} (p : X → Bool) (xs : List X) where
   pub passed_upto : (i : ℕ) → IsPartitionedBy p xs → i < length xs → AllWithin (λ y. p y ≡ true) xs i (i + 1) → AllWithin (λ y. p y ≡ true) xs 0 (i + 1)
   passed_upto i parted l here k d lo hi = parted k i d (omega arith) l (here i d (omega arith) (omega arith))
 
--- they rise
+-- placed dots are sorted
 abbrev pub Rise : List Placed → Type 0
 Rise ps = is_sorted dot_cmp (id_entries ps) ≡ true
 
@@ -43,7 +43,7 @@ rise_tail = rising.rise_tail dot_cmp dots_total dots_exact (λ p. p.dot) (λ p. 
 pub rise_head : (p : Placed) (ps : List Placed) → Rise (p ∷ ps) → below_all dot_cmp p.dot (id_entries ps) ≡ true
 rise_head = rising.rise_head dot_cmp dots_total dots_exact (λ p. p.dot) (λ p. p.id)
 
--- those before a dot come first
+-- the placed dots before a dot come first
 pub partitioned : (d : Dot) (ps : List Placed) → Rise ps → IsPartitionedBy (λ p. is_lt (dot_cmp p.dot d)) ps
 partitioned = rising.partitioned dot_cmp dots_total dots_exact (λ p. p.dot) (λ p. p.id)
 
@@ -72,7 +72,7 @@ placed_found (p ∷ ps) q = ap (λ b. eq_by_cmp dot_cmp q p.dot || b) (placed_fo
     split true = refl
     split false = refl
 
--- those that are the entries of a map
+-- placed dots that are the entries of a map
 module _ (ps : List Placed) (ids : IdMap) (are : id_entries ps ≡ maps.entries ids) where
   pub placed_rise : Rise ps
   placed_rise = ap (is_sorted dot_cmp) are ∙ fact _ (maps.entries_sorted ids)
@@ -81,6 +81,6 @@ module _ (ps : List Placed) (ids : IdMap) (are : id_entries ps ≡ maps.entries 
   pub placed_named : (q : Dot) → is_placed ps q ≡ maps.contains_key ids q
   placed_named q = placed_found ps q ∙ ap (λ es. is_some (find dot_cmp q es)) are ∙ ap is_some (sym (maps.get-entries ids q))
 
--- so it is among them where it is live
+-- a dot is among the placed ones if it is live
 pub placed_live : (ps : List Placed) (s : LiveState) → id_entries ps ≡ maps.entries s.ids → ((q : Dot) → maps.contains_key s.ids q ≡ maps.contains_key s.live q) → is_placed ps ≡ maps.contains_key s.live
 placed_live ps s are named = λ i q. (placed_named ps s.ids are q ∙ named q) i

@@ -1,4 +1,4 @@
--- Whether some dot is live with a member, as the index of the live dots tells it.
+-- Whether some dot is live with a member, by the index of the live dots.
 use Rattle.std.proofs.Common.{◌≡◌, ◌↔◌, true, false, List, Option, Some, None, sym, ap, ◌∙◌}
 use Rattle.std.specs.Prelude.{IsTrue}
 use Rattle.std.specs.List.{list_any}

@@ -58,7 +58,7 @@ unfolding IsDistinct
 distinct [] s = tt
 distinct (c ∷ cs) s = (apart_all c.member c.dot cs (rise_head c cs s), distinct cs (rise_tail c cs s))
 
--- where there is no cell, the index is empty
+-- without cells the index is empty
 pub nothing_listed : (cs : List LiveDot) (index : List Listed) → cs ≡ [] → index ≡ [] → IsIndex index (live_of cs)
 nothing_listed cs index none empty = subst (λ xs. IsIndex index (live_of xs)) (sym none) (subst (λ ys. IsIndex ys (live_of [])) (sym empty) (record {
   rises = refl;

@@ -27,7 +27,7 @@ module _ {K : Type 0} (R : K → K → Ordering) (o : IsTotalOrder R) (exact : I
   pub turned : (a b : K) → is_lt (R a b) ≡ true → R b a ≡ Greater
   turned a b h = o.antisymm b a ∙ ap ordering_reverse (less_of _ h)
 
-  -- so the two aren't one
+  -- two keys of which one precedes the other differ
   pub apart : (a b : K) → is_lt (R a b) ≡ true → eq_by_cmp R b a ≡ false
   apart a b h = ap is_eq (turned a b h)
 
@@ -100,7 +100,7 @@ module _ {X K V : Type 0} (R : K → K → Ordering) (o : IsTotalOrder R) (exact
   partitioned_by p f (c ∷ cs) a (suc i) zero e l h t = absurd (omega arith)
   partitioned_by p f (c ∷ cs) a (suc i) (suc j) e l h t = partitioned_by p f cs (rise_tail c cs a) i j e (omega arith) (omega arith) t
 
-  -- so those before a key come first
+  -- the elements before a key come first
   pub partitioned : (d : K) (cs : List X) → Rise cs → IsPartitionedBy (λ c. is_lt (R (key c) d)) cs
   partitioned d = partitioned_by (λ c. is_lt (R (key c) d)) (λ a b h t. before_trans R o exact (key a) (key b) d h t)
 
@@ -205,7 +205,7 @@ module _ {X K V : Type 0} (R : K → K → Ordering) (o : IsTotalOrder R) (exact
       let n : K × V = (key e, value e) in
       ap is_lt ((λ k. R (sym (ap (λ y. y.0) (entry_at cs i e n (omega arith))) k) (sym (ap (λ y. y.0) (entry_at cs j f n l)) k)) ∙ rising_at R o (entries cs) s i j n lt (omega (arith, count cs)))
 
-  -- so the keys at two places differ
+  -- the keys at two places differ
   pub keys_differ : (cs : List X) (i j : ℕ) (e f : X) → Rise cs → i < j → j < length cs → key (get_or cs i e) ≢ key (get_or cs j f)
   keys_differ cs i j e f s lt l same =
       let apart = apart_after R o exact (key (get_or cs i e)) (key (get_or cs j f)) (earlier cs i j e f s lt l) in

@@ -108,7 +108,7 @@ module _ (queue : ℕ) (ls : List Listed) (place : ℕ) (l : Listed) (r : Rises 
             cc)
       ]
 
-  -- it is of the least interface that is left
+  -- the next entry is of the least interface that is left
   pub least_next : IsLeastEntry queue (interface_before queue ls place) ls l
   least_next = least_here queue (interface_before queue ls place) ls place reached.before reached.rest r l next.within next.here next.own
 
@@ -157,14 +157,14 @@ module _ (s : PlacedState) (members : List Id) (queue place : ℕ) (l : Listed) 
   pub walk_next : IsReached queue index end
   walk_next = reached_next queue index place l indexed.index.rises reached next end some inside upto
 
-  -- they show its row
+  -- the ids of the next member show its row
   pub row_next : option_map row_of_fields (fields_shown (fields_at s.held ids)) ≡ row_of (cells_view (cells_of s)) l.member
   row_next =
       let lesser = lesser_before queue index place l indexed.index.rises reached next in
       row_of_group s members ids l.member indexed
       (listed_between s.held members indexed.held place (end - place) ∙ group_between l.member index place end reached.within inside lesser upto)
 
-  -- which is the first of those that are left
+  -- the row of the next member is the first of the rows that are left
   pub rows_next : (row : MemberRow) → row_of (cells_view (cells_of s)) l.member ≡ Some row → rows_left s members queue place ≡ (l.member.interface, row) ∷ rows_left s members queue end
   rows_next row shown =
       next_row (cells_of s) index queue (rise s.dots s.held s.spent indexed.placed) indexed.index (interface_before queue index place) l row (least_next queue index place l indexed.index.rises reached next) shown

@@ -31,7 +31,7 @@ module _ {X : Type 0} (dot : X → Dot) (test : X → Bool) where
   count_none [] xs = none_pass xs
   count_none (r ∷ rs) xs = none_pass xs
 
-  -- those of one more run
+  -- the dots in the runs after one more run
   pub count_more : (runs : List Run) (i : ℕ) (run : Run) (xs : List X) → AreApart runs → i < length runs → run ≡ get_or runs i run
       → count_by (λ x. in_runs (take (i + 1) runs) (dot x) && test x) xs ≡ count_by (λ x. in_runs (take i runs) (dot x) && test x) xs + count_by test (filter (λ x. in_run (dot x) run) xs)
   count_more runs i run xs apart l is =
@@ -45,7 +45,7 @@ module _ {X : Type 0} (dot : X → Dot) where
   and_true true = refl
   and_true false = refl
 
-  -- the same without a further test
+  -- no dot is in the first 0 runs
   pub none_so_far : (runs : List Run) (xs : List X) → count_by (λ x. in_runs (take 0 runs) (dot x)) xs ≡ 0
   none_so_far runs xs = count_same _ _ (λ x. sym (and_true (in_runs (take 0 runs) (dot x)))) xs ∙ count_none dot (λ x. true) runs xs
 

@@ -33,7 +33,7 @@ shown_cell held ids i id c o l is there so =
     ap (λ p. Some (fields_after p c.fields)) so ∙ sym (shown_push (fields_at held (take i ids)) c.fields)
     ∙ ap fields_shown (ap (λ p. fields_at held (take i ids) ++ each (λ x. x.fields) (cons_option p [])) there ∙ sym (more held ids i id l is))
 
--- and after one that has none
+-- what is shown after one more id that has no cell
 pub shown_none : (held : CellMap) (ids : List Id) (i : ℕ) (id : Id) (o : Option DotFields) → i < length ids → id ≡ get_or ids i id → None ≡ maps.get held id
     → o ≡ fields_shown (fields_at held (take i ids)) → o ≡ fields_shown (fields_at held (take (i + 1) ids))
 shown_none held ids i id o l is none so =
@@ -49,7 +49,7 @@ held_at s (id ∷ ids) a = one (maps.get s.held id) refl (held_at s ids a)
     one None e r = r
     one (Some c) e r = λ k. cons_option (option_map (λ h. h.1) (its_live s.dots s.held s.spent a id c e k)) (r k)
 
--- so the cells of a member's ids show its row
+-- the cells of a member's ids show its row
 pub row_of_group : (s : PlacedState) (members ids : List Id) (m : Member) → AreIndexed s members → listed_at s.held ids ≡ group m (listed_at s.held members)
     → option_map row_of_fields (fields_shown (fields_at s.held ids)) ≡ row_of (cells_view (cells_of s)) m
 row_of_group s members ids m a own =

@@ -34,7 +34,7 @@ use Rattle.dots.proofs.MemberOrder.{exact_texts}
 use Rattle.general_lemmas.proofs.TruthTables.{fact, less_of, equal_of}
 use Rattle.live_cells.proofs.MemberOrder.{by_members, interface_not_less, less_parts, member_itself, one_member, queue_not_less}
 
--- texts in their order
+-- texts in order
 abbrev Text : Type 0
 Text = List ℕ
 
@@ -327,7 +327,7 @@ module _ (queue : ℕ) (last : Option Text) where
       not_before : (k : ℕ) (e : Listed) → i ≤ k → k < length ls → is_lt (member_cmp (get_or ls k e).member x.member) ≡ false
       not_before k e l h = ap (λ y. is_lt (member_cmp (get_or ls k e).member y.member)) (sym (same_entry e)) ∙ not_lesser ls i k e r l h
 
-      -- nor where the first that isn't is of another queue
+      -- no row is left if the first entry that isn't passed over is of another queue
       pub least_beyond : x.member.queue ≢ queue → All (λ e. is_left queue last e ≡ false) ls
       least_beyond other k e l = elim (cases_Bool (nat_lt k i)) [
         | inl t ↦ not_left (get_or ls k e) (before k e (omega arith) (grind (arith, nat_tests, t)))

@@ -1,4 +1,4 @@
--- The ids that live dots have: which are there after a change, and which are spent for good.
+-- The ids of live dots: which exist after a change, and which are spent and never used again.
 use Rattle.std.specs.Prelude.{ℕ, ◌≡◌, ◌≢◌, ◌<◌, ◌⊎◌, true, false, nat_eq, Some, None}
 use Rattle.std.specs.FinMap as map
 use Rattle.std.specs.FinSet as set
@@ -10,11 +10,11 @@ use Rattle.op_arena.specs.Ids.{Id, id_cmp, id_of}
 abbrev pub IdMap : Type 0
 IdMap = map.FinMap dot_cmp Id
 
--- the ids of dots that are live no more
+-- the ids of removed dots
 abbrev pub IdSet : Type 0
 IdSet = set.FinSet id_cmp
 
--- how many places aren't used again: that many ids of the last generation are spent
+-- the number of retired places: that many ids of the last generation are spent
 abbrev pub retired_of : ℕ → IdSet → ℕ
 retired_of last spent = set.len (set.retain spent (λ id. nat_eq id.generation last))
 
@@ -29,14 +29,14 @@ pub record IsNew (ids : IdMap) (spent after : IdSet) (id : Id) : Type 0 where
   pub unspent : set.contains spent id ≡ false
   pub lesser : (generation : ℕ) → generation < id.generation → set.contains after (id_of id.index generation) ≡ true
 
--- a dot had an id, and is live no more
+-- a dot had an id, and was removed
 pub record HadId (ids after : IdMap) (id : Id) : Type 0 where
   pub dot : Dot
   pub had : map.get ids dot ≡ Some id
   pub gone : map.get after dot ≡ None
 
--- What ids there are after a change: a dot keeps its id while it is live, one that becomes live has an id that no dot had
--- before, and those of the dots that are live no more are spent, beside those that were.
+-- The ids after a change: a live dot keeps its id, a new live dot has an id that no dot had before, and the ids of removed
+-- dots are spent, in addition to those that were spent before.
 pub record IdsFollow (ids : IdMap) (spent : IdSet) (after : IdMap) (now : IdSet) : Type 0 where
   pub kept : (dot : Dot) (id : Id) → map.get ids dot ≡ Some id → (map.get after dot ≡ Some id) ⊎ (map.get after dot ≡ None)
   pub new : (dot : Dot) (id : Id) → map.get ids dot ≡ None → map.get after dot ≡ Some id → IsNew ids spent now id

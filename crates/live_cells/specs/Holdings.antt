@@ -1,4 +1,4 @@
--- What live dots hold, and what is read of it.
+-- The members and fields of live dots, and what readers see of them.
 use Rattle.std.specs.Prelude.{◌≡◌, Some}
 use Rattle.std.specs.Option.{option_map, option_map_or}
 use Rattle.std.specs.FinMap as map
@@ -18,7 +18,7 @@ Holding = Member × DotFields
 abbrev pub cell_read : Cell → Holding
 cell_read c = (c.member.now, c.fields.now)
 
--- what is read of live dots: they are the visible ones, with the member and the fields that are held
+-- what readers see of live dots: they are the visible ones, with their members and fields
 abbrev pub view_of : map.FinMap dot_cmp Holding → DotView
 view_of live = record {
   visible = set.from_list (map.keys live);

@@ -16,7 +16,7 @@ pub record Listed : Type 0 where
   pub member : Member
   pub dot : Dot
 
--- what the index has is ordered by member, then by dot
+-- the entries of the index are ordered by member, then by dot
 abbrev pub listed_cmp : Listed → Listed → Ordering
 listed_cmp = then_cmp (on (λ l. l.member) member_cmp) (on (λ l. l.dot) dot_cmp)
 
@@ -24,11 +24,11 @@ listed_cmp = then_cmp (on (λ l. l.member) member_cmp) (on (λ l. l.dot) dot_cmp
 abbrev pub listing : LiveDot → Listed
 listing c = record { member = c.member; dot = c.dot }
 
--- the index as the entries of a map that has keys alone
+-- the index as the entries of a map with keys only
 abbrev pub listings : List Listed → List (Listed × Unit {0})
 listings index = map (λ l. (l, tt)) index
 
--- the index rises
+-- the index is sorted, without duplicates
 abbrev pub Rises : List Listed → Type 0
 Rises index = IsTrue (maps.is_sorted listed_cmp (listings index))
 
@@ -40,7 +40,7 @@ is_listed index member dot = list_any (eq_by_cmp listed_cmp (record { member = m
 abbrev pub IsBelow : Listed → List Listed → Type 0
 IsBelow l index = IsTrue (maps.Entries.below_all listed_cmp l (listings index))
 
--- a place in the index: the entries before it lie before another one, and those from there on don't
+-- a place in the index: the entries before it precede another one, and those from there on don't
 pub record IsPlaceFor (index : List Listed) (l : Listed) (place : ℕ) : Type 0 where
   pub within : place ≤ length index
   pub before : AllWithin (λ x. is_lt (listed_cmp x l) ≡ true) index 0 place

@@ -1,4 +1,4 @@
--- Runs of live dots: those of one site, with counts that follow one another.
+-- Runs of live dots: dots of one site with consecutive counts.
 use Rattle.std.specs.Prelude.{ℕ, ◌≡◌, ◌+◌, ◌-◌, List, slice_index_or}
 use Rattle.std.specs.Coded.{Coded-set, coded_ℕ}
 use Rattle.live_cells.specs.declared.placed.Placed.{Placed}
@@ -8,7 +8,7 @@ pub record IsLiveRun (dots : List Placed) (first last : ℕ) : Type 0 where
   pub site : (p : Placed) → (slice_index_or dots last p).dot.site ≡ (slice_index_or dots first p).dot.site
   pub count : (p : Placed) → (slice_index_or dots last p).dot.count ≡ (slice_index_or dots first p).dot.count + (last - first)
 
--- that they are has one proof at most
+-- that the dots from one place to another are a run has one proof at most
 pub run-prop : (dots : List Placed) (first last : ℕ) → IsProp (IsLiveRun dots first last)
 run-prop dots first last a b = λ i. record {
   site = λ p. Coded-set coded_ℕ _ _ (a.site p) (b.site p) i;

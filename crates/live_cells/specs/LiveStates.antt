@@ -12,15 +12,15 @@ use Rattle.op_arena.specs.Ids.{Id, id_code}
 use Rattle.live_cells.specs.CellIds.{AreIdsApart, IdMap, IdSet, IdsFollow, IsNew, retired_of}
 use Rattle.live_cells.specs.Holdings.{Holding}
 
--- the live dots with member and fields, the id of each, the ids of dots that are live no more, and for how many live dots
--- there is room in all
+-- the live dots with member and fields, the id of each, the ids of removed dots, and the number of live dots for which there is
+-- room in all
 pub record LiveState : Type 0 where
   pub live : map.FinMap dot_cmp Holding
   pub ids : IdMap
   pub spent : IdSet
   pub room : ℕ
 
--- it is stored as the tuple of these
+-- the state of live dots is stored as the tuple of its fields
 abbrev pub live_code : Coded LiveState
 live_code =
     code_by (map.FinMap dot_cmp Holding × (IdMap × (IdSet × ℕ)))
@@ -32,15 +32,15 @@ live_code =
 abbrev pub most_places : ℕ
 most_places = 1048576
 
--- what holds of live dots, whatever was done: each has an id, which is its own and not spent; with the places that aren't used
--- again they are few enough; and each of those places has spent an id in each of its generations
+-- the invariant of live dots: each has an id, which is its own and not spent; with the retired places they are few enough; and each
+-- of those places has spent an id in each of its generations
 pub record AreLive (last : ℕ) (s : LiveState) : Type 0 where
   pub named : (dot : Dot) → map.contains_key s.ids dot ≡ map.contains_key s.live dot
   pub apart : AreIdsApart s.ids s.spent
   pub places : retired_of last s.spent + map.len s.live ≤ most_places
   pub worn : retired_of last s.spent * (last + 1) ≤ set.len s.spent
 
--- spent ids with that of a dot, where it has one
+-- the spent ids after a dot's id is spent, if it has one
 abbrev pub spent_with : Option Id → IdSet → IdSet
 spent_with None spent = spent
 spent_with (Some id) spent = set.insert spent id
@@ -64,7 +64,7 @@ fields_joined_at live dot fields = joined_at_held live dot fields (map.get live 
 abbrev pub dead_there : set.FinSet dot_cmp → map.FinMap dot_cmp Holding → Dot → Bool
 dead_there known there dot = set.contains known dot && not (map.contains_key there dot)
 
--- the dots that pass a test are live no more, and their ids are spent; the others are as before, and no less room is left
+-- the dots that pass a test were removed, and their ids are spent; the others are as before, and no less room is left
 pub record IsThinned (dead : Dot → Bool) (old new : LiveState) : Type 0 where
   pub live : (q : Dot) → map.get new.live q ≡ (if dead q then None else map.get old.live q)
   pub ids : (q : Dot) → map.get new.ids q ≡ (if dead q then None else map.get old.ids q)

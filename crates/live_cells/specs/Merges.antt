@@ -1,4 +1,4 @@
--- Lists that rise, which are merged.
+-- Sorted lists that are merged.
 use Rattle.std.specs.Prelude.{◌≢◌, Contains, List}
 use Rattle.std.specs.Ordering.{on}
 use Rattle.std.specs.declared.cmp.Ordering.{Ordering}

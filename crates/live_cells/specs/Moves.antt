@@ -24,8 +24,8 @@ pub record IsDotThere (there : CellMap) (dot : Dot) : Type 0 where
   pub held : maps.get there id ≡ Some cell
   pub is : cell.dot ≡ dot
 
--- The cells of ids there were moved here: each has an unused id here, which stands in the place of the one that it had there, and
--- is listed with its dot. All other cells are those that were here.
+-- The cells of ids there were moved here: each has a new id here, which replaces the one that it had there, and is listed with its
+-- dot. All other cells are those that were here.
 pub record AreMoved (held : CellMap) (spent : IdSet) (there : CellMap) (ids : List Id) (after : CellMap) (dots : List Placed) (now : List Id) : Type 0 where
   pub listed : ids_of dots ≡ now
   pub named : All (λ p. option_map (λ c. c.dot) (maps.get after p.id) ≡ Some p.dot) dots

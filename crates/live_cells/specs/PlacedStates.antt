@@ -1,4 +1,4 @@
--- The live dots in their order, each with the id of its cell, and the cells by their ids.
+-- The live dots in order, each with the id of its cell, and the cells by their ids.
 use Rattle.std.specs.Prelude.{ℕ, ◌≡◌, ◌≤◌, false, IsTrue, IsSome, Some, List, [], length, map, min, refl}
 use Rattle.std.specs.Coded.{Coded, code_by, coded×, coded_ℕ, coded_list}
 use Rattle.std.specs.List.{All, filter_map}
@@ -25,7 +25,7 @@ use Rattle.live_cells.specs.PlacedLists.{id_entries}
 abbrev pub CellMap : Type 0
 CellMap = maps.FinMap id_cmp LiveDot
 
--- the live dots in their order, each with its id; the cells; the spent ids; and for how many live dots there is room in all
+-- the live dots in order, each with its id; the cells; the spent ids; and the number of live dots for which there is room in all
 pub record PlacedState : Type 0 where
   pub dots : List Placed
   pub held : CellMap
@@ -38,11 +38,11 @@ cell_code =
     code_by (Dot × (Member × DotFields)) (coded× dot_code (coded× member_code fields_code)) (λ c. (c.dot, (c.member, c.fields)))
     (λ p. record { dot = p.0; member = p.1.0; fields = p.1.1 }) (λ _. refl)
 
--- and so is a placed dot
+-- a placed dot is stored as a tuple
 abbrev pub place_code : Coded Placed
 place_code = code_by (Dot × Id) (coded× dot_code id_code) (λ p. (p.dot, p.id)) (λ p. record { dot = p.0; id = p.1 }) (λ _. refl)
 
--- and all that is placed
+-- the state of placed dots is stored as a tuple
 abbrev pub placed_code : Coded PlacedState
 placed_code =
     code_by (List Placed × (CellMap × (IdSet × ℕ)))
@@ -50,7 +50,7 @@ placed_code =
     (λ s. (s.dots, (s.held, (s.spent, s.room))))
     (λ p. record { dots = p.0; held = p.1.0; spent = p.1.1.0; room = p.1.1.1 }) (λ _. refl)
 
--- the cells of ids, in their order
+-- the cells of ids, in order
 abbrev pub cells_at : CellMap → List Id → List LiveDot
 cells_at held ids = filter_map (λ id. maps.get held id) ids
 
@@ -70,7 +70,7 @@ cells_of s = cells_at s.held (ids_of s.dots)
 abbrev pub joined_with : LiveDot → DotFields → LiveDot
 joined_with c fields = record { dot = c.dot; member = c.member; fields = fields_joined c.fields fields }
 
--- placed dots rise; the id of each is that of a cell of the dot, and isn't spent; and each cell's dot is placed with its id
+-- placed dots are sorted; the id of each is that of a cell of the dot, and isn't spent; and each cell's dot is placed with its id
 pub record ArePlaced (dots : List Placed) (held : CellMap) (spent : IdSet) : Type 0 where
   pub sorted : IsTrue (maps.is_sorted dot_cmp (id_entries dots))
   pub there : All (λ p. option_map (λ c. c.dot) (maps.get held p.id) ≡ Some p.dot) dots
@@ -78,7 +78,7 @@ pub record ArePlaced (dots : List Placed) (held : CellMap) (spent : IdSet) : Typ
   pub as_many : maps.len held ≡ length dots
   pub unspent : All (λ p. sets.contains spent p.id ≡ false) dots
 
--- the same of all that is placed
+-- the state of placed dots is sorted and consistent with its cells
 abbrev pub IsPlaced : PlacedState → Type 0
 IsPlaced s = ArePlaced s.dots s.held s.spent
 
@@ -86,11 +86,11 @@ IsPlaced s = ArePlaced s.dots s.held s.spent
 abbrev pub listed_at : CellMap → List Id → List Listed
 listed_at held ids = map listing (cells_at held ids)
 
--- how two ids lie in the index of members by the entries of their cells: an id without one lies before those that have one
+-- the order of two ids in the index of members, by the entries of their cells: an id without one precedes those that have one
 abbrev pub id_order : CellMap → Id → Id → Ordering
 id_order held id other = option_cmp listed_cmp (option_map listing (maps.get held id)) (option_map listing (maps.get held other))
 
--- what live dots are kept by: they are placed, and the index has the ids of their cells, by their members and then by dots
+-- the invariant of indexed live dots: they are placed, and the index has the ids of their cells, by their members and then by dots
 pub record AreIndexed (s : PlacedState) (members : List Id) : Type 0 where
   pub placed : IsPlaced s
   pub held : AreHeld s.held members
@@ -103,6 +103,6 @@ pub record AreUnlisted (s : PlacedState) (members : List Id) (capacity : ℕ) : 
   pub empty : members ≡ []
   pub room : length s.dots ≤ capacity
 
--- what contracts see of them, where the index has room for `capacity` ids
+-- what contracts see of placed dots, if the index has room for `capacity` ids
 abbrev pub live_state : PlacedState → ℕ → LiveState
 live_state s capacity = record { live = live_of (cells_of s); ids = maps.from_sorted (id_entries s.dots); spent = s.spent; room = min s.room capacity }

@@ -1,4 +1,4 @@
--- A walk over the rows of a queue, by the index of members: how far it has come, and which rows are left.
+-- A walk over the rows of a queue, by the index of members: the place that it has reached, and the rows that are left.
 use Rattle.std.specs.Prelude.{ℕ, zero, suc, ◌≡◌, ◌<◌, ◌≤◌, true, false, List, length, slice_get, slice_index_or, Option, None}
 use Rattle.std.specs.List.{AllWithin}
 use Rattle.std.specs.Option.{option_and_then}
@@ -19,7 +19,7 @@ pub record IsReached (queue : ℕ) (index : List Listed) (place : ℕ) : Type 0 
   pub before : AllWithin (λ l. is_passed queue (interface_before queue index place) l.member ≡ true) index 0 place
   pub rest : AllWithin (λ l. is_passed queue (interface_before queue index place) l.member ≡ false) index place (length index)
 
--- an entry of the queue stands at the place that is reached
+-- an entry of the queue is at the place that is reached
 pub record IsNext (queue : ℕ) (index : List Listed) (place : ℕ) (l : Listed) : Type 0 where
   pub within : place < length index
   pub here : l ≡ slice_index_or index place l

@@ -16,7 +16,7 @@ use Rattle.live_cells.specs.declared.live_dot.LiveDot.{LiveDot}
 use Rattle.live_cells.specs.LiveLists.{live_of}
 use Rattle.live_cells.specs.Holdings.{Holding, view_of}
 
--- what is read of cells
+-- what readers see of cells
 abbrev pub cells_view : List LiveDot → DotView
 cells_view cells = view_of (live_of cells)
 
@@ -24,7 +24,7 @@ cells_view cells = view_of (live_of cells)
 abbrev pub is_own : Member → Listed → Bool
 is_own member l = eq_by_cmp member_cmp member l.member
 
--- the entries of a member, in their order
+-- the entries of a member, in order
 abbrev pub group : Member → List Listed → List Listed
 group member index = filter (is_own member) index
 
@@ -36,7 +36,7 @@ dots_listed entries = map (λ l. l.dot) entries
 abbrev pub fields_held : maps.FinMap dot_cmp Holding → List Dot → List DotFields
 fields_held live dots = filter_map (λ dot. option_map (λ h. h.1) (maps.get live dot)) dots
 
--- for each field the entry of the greatest stamp over those of some dots, of equal stamps that of the first
+-- for each field the entry of the greatest stamp over those of some dots, for equal stamps that of the first
 abbrev pub fields_over : List DotFields → DotFields
 fields_over fields = record {
   penalty = latest_of (filter_map (λ f. f.penalty) fields);

@@ -1,7 +1,7 @@
 use dots::Member;
 use lww_registers::Fields;
 
-/// What is kept of a live dot, lent: its member, and what is set of it.
+/// The cell of a live dot, borrowed: its member, and its fields.
 #[derive(Clone, Copy)]
 pub struct Cell<'a> {
     /// The member.

@@ -15,11 +15,11 @@ use op_arena::{ArenaFault, CellId};
 use std::alloc::Global;
 use std::marker::Model;
 
-/// Live dots that are being put together, one by one in their order. Their order by members is made once, in the end.
+/// Live dots that are added one by one in order. Their order by members is made once, at the end.
 #[derive(Drop)]
 pub struct CellsBuilder<const LAST: u32> {
     placed: PlacedCells<LAST>,
-    // It is empty, and has room for the ids of all cells.
+    // The list of ids is empty, and has room for the ids of all cells.
     members: Vec<CellId>,
 }
 
@@ -65,7 +65,7 @@ fn make_room<const LAST: u32>(
 }
 
 impl<const LAST: u32> CellsBuilder<LAST> {
-    /// No dot is live so far. It takes no memory.
+    /// A builder in which no dot is live. Takes no memory.
     pub fn new(alloc: Global) -> Self
         ensures live { result.live ≡ map.empty }
         ensures ids { result.ids ≡ map.empty }
@@ -78,8 +78,9 @@ impl<const LAST: u32> CellsBuilder<LAST> {
         }
     }
 
-    /// Lets a dot be live that is greater than those before, and answers its id. No fault changes what is live, and the cell
-    /// is dropped then. 1 `Full`, exactly where 1,048,576 dots are live; 2 `Memory`, which doesn't come where there is room.
+    /// Adds a live dot that is greater than those before, and returns its id. A fault leaves the live dots as they are, and
+    /// drops the cell. Errors, in order: 1 `Full`, exactly where 1,048,576 dots are live; 2 `Memory`, never if there is
+    /// room.
     pub fn put(&mut self, cell: LiveDot) -> Result<CellId, ArenaFault>
         requires { (q : Dot) → IsSome (map.get self.old.live q) → dot_cmp q cell.dot ≡ Less }
         ensures ok { OnOk result (
@@ -100,8 +101,8 @@ impl<const LAST: u32> CellsBuilder<LAST> {
         Ok(self.placed.insert(end, cell))
     }
 
-    /// These live dots, with the ids that were answered. It takes no memory, and sorts the dots by their members where they
-    /// didn't come in that order.
+    /// The live dots, with the ids that were returned. Takes no memory, and sorts the dots by their members if they were
+    /// not added in that order.
     pub fn finish(self) -> LiveCells<LAST>
         ensures live { result.live ≡ self.entry.live }
         ensures ids { result.ids ≡ self.entry.ids }

@@ -11,7 +11,7 @@ use crate::places::LAST_GENERATION;
 use dots::Dot;
 use std::marker::Model;
 
-/// The live dots of a set that are left to go over, in their order, each with its cell. It takes no memory.
+/// The live dots of a set that are left to go over, in order, each with its cell. Takes no memory.
 #[derive(Drop)]
 pub struct Cells<'a> {
     left: &'a [Placed],
@@ -39,7 +39,7 @@ impl<'a> Model for Cells<'a> {
 }
 
 impl<'a> Cells<'a> {
-    // All that are placed.
+    // All live dots.
     pub(crate) fn of(cells: &'a PlacedCells<LAST_GENERATION>) -> Cells<'a>
         ensures { result ≡ entries_of (cells_of cells.now) }
     {

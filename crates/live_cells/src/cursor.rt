@@ -11,8 +11,8 @@ use crate::places::LAST_GENERATION;
 use dots::Dot;
 use std::marker::Model;
 
-/// The live dots of a set, where dots are looked up one after the other: each is first looked for right behind the last one, and
-/// is searched for only where it doesn't belong there. It takes no memory.
+/// A cursor over the live dots of a set, for look-ups in order: each dot is first looked for right after the last one, and is
+/// searched for only if it isn't there. Takes no memory.
 #[derive(Drop)]
 pub struct Cursor<'a> {
     cells: &'a PlacedCells<LAST_GENERATION>,
@@ -41,7 +41,7 @@ impl<'a> Model for Cursor<'a> {
 }
 
 impl<'a> Cursor<'a> {
-    // A cursor before all that are placed.
+    // A cursor before all live dots.
     pub(crate) fn of(cells: &'a PlacedCells<LAST_GENERATION>) -> Cursor<'a>
         requires { IsPlaced cells.now }
         ensures { result ≡ live_of (cells_of cells.now) }
@@ -49,7 +49,7 @@ impl<'a> Cursor<'a> {
         Cursor { cells, next: 0 }
     }
 
-    /// The member and the fields of a dot, where it is live.
+    /// The member and the fields of a dot, if it is live.
     pub fn get(&mut self, dot: Dot) -> Option<Cell<'a>>
         ensures value { option_map cell_read result ≡ map.get self.old dot }
         ensures same { self.new ≡ self.old }

@@ -10,7 +10,7 @@ use dots::{Dot, Member};
 use op_arena::CellId;
 use std::marker::Model;
 
-/// The live dots of a member that are left to go over, in their order. It takes no memory.
+/// The live dots of a member that are left to go over, in order. Takes no memory.
 #[derive(Drop)]
 pub struct Dots<'a> {
     left: &'a [CellId],
@@ -36,7 +36,7 @@ impl<'a> Model for Dots<'a> {
 }
 
 impl<'a> Dots<'a> {
-    // Those of a member, by the index of members.
+    // The live dots of a member, by the index of members.
     pub(crate) fn of(index: MemberIndex<'a, LAST_GENERATION>, member: &Member) -> Dots<'a>
         ensures { result
             ≡ dots_listed (group member.now

@@ -1,4 +1,4 @@
-//! Cells that are freed, and the lists without their ids.
+//! Frees cells, and removes their ids from the lists.
 ghost use Rattle.std.specs.Prelude.{◌≡◌, ◌≤◌, filter};
 ghost use Rattle.std.specs.FinMap as map;
 ghost use Rattle.live_cells.specs.Freed.{AreChosen, AreFreed, with_cells};
@@ -42,7 +42,7 @@ pub(crate) fn free_cells<const LAST: u32>(
     }
 }
 
-// Leaves out the dots that have no cell. Where there are as many cells as dots nothing is looked at.
+// Removes the dots that have no cell. If there are as many cells as dots, reads nothing.
 pub(crate) fn keep_dots<const LAST: u32>(cells: &Arena<LiveDot, LAST>, dots: &mut Devector<Placed>)
     requires { ArePlaced (with_cells cells.now.held dots.old.items) cells.now.held
         cells.now.spent }
@@ -59,7 +59,7 @@ pub(crate) fn keep_dots<const LAST: u32>(cells: &Arena<LiveDot, LAST>, dots: &mu
     );
 }
 
-// Leaves out the ids that have no cell. Where there are as many dots as ids nothing is looked at.
+// Removes the ids that have no cell. If there are as many dots as ids, reads nothing.
 pub(crate) fn keep_ids<const LAST: u32>(cells: &PlacedCells<LAST>, ids: &mut Devector<CellId>)
     requires { AreIndexed cells.now
         (filter (λ id. map.contains_key cells.now.held id) ids.old.items) }

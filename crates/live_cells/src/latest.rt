@@ -19,7 +19,7 @@ pub(crate) struct Latest<'a> {
     pub(crate) ring: &'a Register<bool>,
 }
 
-// The register of the later stamp; of equal stamps the first.
+// The register of the later stamp; for equal stamps the first.
 fn later<'a, T>(first: &'a Register<T>, second: &'a Register<T>) -> &'a Register<T>
     ensures { result.now ≡ join_of first.now second.now }
 {
@@ -32,11 +32,11 @@ fn later<'a, T>(first: &'a Register<T>, second: &'a Register<T>) -> &'a Register
     if stamp < other { second } else { first }
 }
 
-// The text where none was set.
+// The text of a label that isn't set.
 const EMPTY: &[u8] = &[];
 
 impl<'a> Latest<'a> {
-    // Those of one cell.
+    // The registers of one cell.
     fn of(fields: &'a Fields) -> Latest<'a>
         ensures { latest_fields result ≡ fields.now }
     {
@@ -48,7 +48,7 @@ impl<'a> Latest<'a> {
         }
     }
 
-    // These, with those of a cell that follows.
+    // The latest of these registers and those of a further cell.
     fn and(self, fields: &'a Fields) -> Latest<'a>
         ensures { latest_fields result
             ≡ fields_joined (latest_fields self.entry) fields.now }
@@ -92,7 +92,7 @@ impl<'a> Latest<'a> {
     }
 }
 
-// Those of the cells before, if any, with those of a cell that follows.
+// The latest registers of the cells before, if any, and of a further cell.
 pub(crate) fn after<'a>(latest: Option<Latest<'a>>, fields: &'a Fields) -> Latest<'a>
     ensures { latest_fields result
         ≡ fields_after (option_map latest_fields latest.entry) fields.now }

@@ -1,5 +1,5 @@
 //! The live dots of a member set, each with its member and a register for each field, in cells of an arena. Two lists of
-//! ids lead to them: by dot, and by member and then by dot. An id that was spent never means another dot.
+//! ids index them: by dot, and by member and then by dot. A spent id never means another dot.
 #![tactic(auto)]
 
 mod cell;

@@ -38,9 +38,9 @@ use op_arena::{ArenaFault, CellId};
 use std::alloc::Global;
 use std::marker::Model;
 
-/// The live dots of a set, each with its member and fields: found by dot, by member and by id. Their cells stand in an arena
-/// of at most 1,048,576 places, where one of generation `LAST` isn't used again once its dot is live no more. While a dot is
-/// live it has an id, which no other dot here ever has. What only reads and has no fault takes no memory.
+/// The live dots of a set, each with its member and fields, indexed by dot, by member and by id. Their cells are in an arena
+/// of at most 1,048,576 places; a place of generation `LAST` is retired once its dot is removed. A live dot has an id, which
+/// no other dot here ever has. Functions that only read and can't fail take no memory.
 #[derive(Drop)]
 pub struct LiveCells<const LAST: u32> {
     placed: PlacedCells<LAST>,
@@ -63,7 +63,7 @@ impl<const LAST: u32> Model for LiveCells<LAST> {
 }
 
 impl<const LAST: u32> LiveCells<LAST> {
-    /// No dot is live. It takes no memory.
+    /// An empty set of live dots. Takes no memory.
     pub fn new(alloc: Global) -> Self
         ensures live { result.live ≡ map.empty }
         ensures ids { result.ids ≡ map.empty }
@@ -76,7 +76,7 @@ impl<const LAST: u32> LiveCells<LAST> {
         }
     }
 
-    // The live dots that are placed. It makes their index in an empty list, with room for it.
+    // The live dots of these placed cells. Makes their index in an empty list, which has room for it.
     pub(crate) fn of(placed: PlacedCells<LAST>, mut members: Vec<CellId>) -> Self
         requires empty { members.items ≡ [] }
         requires room { length placed.dots ≤ vec_capacity members }
@@ -96,7 +96,7 @@ impl<const LAST: u32> LiveCells<LAST> {
         self.placed.allocator()
     }
 
-    /// How many dots are live: with the places that aren't used again, at most 1,048,576.
+    /// The number of live dots: with the retired places, at most 1,048,576.
     pub fn len(&self) -> usize
         ensures value { result ≡ map.len self.now.live }
         ensures limits { AreLive LAST self.now }
@@ -104,7 +104,7 @@ impl<const LAST: u32> LiveCells<LAST> {
         self.placed.len()
     }
 
-    /// For how many live dots there is room in all: with the places that aren't used again, at most 1,048,576.
+    /// The number of live dots for which there is room in all: with the retired places, at most 1,048,576.
     pub fn room(&self) -> usize
         ensures value { result ≡ self.now.room }
         ensures limit { retired_of LAST self.now.spent + result ≤ most_places }
@@ -112,7 +112,7 @@ impl<const LAST: u32> LiveCells<LAST> {
         self.placed.room().min(self.members.room())
     }
 
-    /// How many places aren't used again: each has spent an id in each of `LAST` + 1 generations.
+    /// The number of retired places: each has spent an id in each of `LAST` + 1 generations.
     pub fn retired(&self) -> u32
         ensures { result ≡ retired_of LAST self.now.spent }
     {
@@ -139,7 +139,8 @@ impl<const LAST: u32> LiveCells<LAST> {
         }
     }
 
-    /// The member and the fields of the live dot that has an id, where one has it. A spent id answers `None` for good.
+    /// The member and the fields of the live dot with this id; `None` if no live dot has it. A spent id gives `None` from
+    /// then on.
     pub fn at(&self, id: CellId) -> Option<Cell<'_>>
         ensures some { IfSome result (λ cell. HasId self.now id (cell_read cell)) }
         ensures none { result ≡ None → (dot : Dot) → map.get self.now.ids dot ≢ Some id }
@@ -149,7 +150,7 @@ impl<const LAST: u32> LiveCells<LAST> {
         Some(cell.lent())
     }
 
-    /// The live dots in their order, each with its id.
+    /// The live dots in order, each with its id.
     pub fn placed(&self) -> PlacedDots<'_>
         ensures dots { (dot : Dot) → is_placed result.list.now dot
             ≡ map.contains_key self.now.live dot }
@@ -175,9 +176,9 @@ impl<const LAST: u32> LiveCells<LAST> {
         self.index().has_member(member)
     }
 
-    /// Makes room for `more` more live dots. No fault changes what is live. 1 `Full`, exactly where the live dots, the places
-    /// that aren't used again and `more` together are more than 1,048,576; 2 `Memory`, which is never wanted where there is
-    /// room, and after which there may be more room than before.
+    /// Makes room for `more` more live dots. No fault changes the live dots. Errors, in order: 1 `Full`, exactly where the
+    /// live dots, the retired places and `more` together are more than 1,048,576; 2 `Memory`, never if there is room; after
+    /// it there may be more room than before.
     pub fn reserve(&mut self, more: usize) -> Result<(), ArenaFault>
         ensures room { OnOk result (map.len self.old.live + more ≤ self.new.room) }
         ensures full { (result ≡ Err ArenaFault.Full)
@@ -195,7 +196,8 @@ impl<const LAST: u32> LiveCells<LAST> {
         }
     }
 
-    /// Lets a dot be live that isn't, in room that is there, and answers its id, which no dot had before. It takes no memory.
+    /// Adds a live dot that isn't live yet, in room that is there, and returns its id, which no dot had before. Takes no
+    /// memory.
     pub fn insert(&mut self, cell: LiveDot) -> CellId
         requires new { map.get self.old.live cell.dot ≡ None }
         requires room { map.len self.old.live < self.old.room }
@@ -221,7 +223,7 @@ impl<const LAST: u32> LiveCells<LAST> {
         id
     }
 
-    /// Lets a dot be live no more, whose id is spent then. Nothing changes where it isn't live.
+    /// Removes a dot and retires its id. Changes nothing if the dot isn't live.
     pub fn remove(&mut self, dot: Dot)
         ensures live { self.new.live ≡ map.remove self.old.live dot }
         ensures ids { self.new.ids ≡ map.remove self.old.ids dot }
@@ -241,9 +243,9 @@ impl<const LAST: u32> LiveCells<LAST> {
         self.placed.remove(place);
     }
 
-    /// Lets live what is live in others, of which nothing is live here, in room that is there. Those dots get new ids
-    /// here; the dots that were live keep theirs, and ids that were spent stay so. The cells are moved, the lists of
-    /// ids are merged once, and it takes no memory.
+    /// Moves all live dots of others here, none of which is live here, into room that is there. Those dots get new ids here;
+    /// the dots that were live keep theirs, and spent ids stay spent. The cells are moved, the lists of ids are merged once,
+    /// and no memory is taken.
     pub fn append(&mut self, others: Self)
         requires apart { (q : Dot) → IsSome (map.get others.live q) → map.get self.old.live q ≡ None }
         requires room { map.len self.old.live + map.len others.live ≤ self.old.room }
@@ -258,9 +260,9 @@ impl<const LAST: u32> LiveCells<LAST> {
         merge_members(&self.placed, &mut self.members, &ids);
     }
 
-    /// Joins the fields of a dot with others that agree with them, where it is live. It takes no memory. `guess` is how many
-    /// live dots may lie before it; any number will do, but where it is wrong the dot is searched for. The answer is the
-    /// guess for a dot right behind it.
+    /// Joins the fields of a dot with others that agree with them, if the dot is live. Takes no memory. `guess` is the
+    /// expected number of live dots before it; any number is correct, but if it is wrong the dot is searched for. Returns the
+    /// guess for a dot right after it.
     pub fn join_fields(&mut self, guess: usize, dot: Dot, fields: &Fields) -> usize
         requires { IfSome (map.get self.old.live dot) (λ h. FieldsAgree h.1 fields.now) }
         ensures live { self.new.live ≡ fields_joined_at self.old.live dot fields.now }
@@ -277,8 +279,7 @@ impl<const LAST: u32> LiveCells<LAST> {
         }
     }
 
-    /// The same live dots once more, in a new arena, with ids of their own, of which none is spent. The one fault is want of
-    /// memory.
+    /// A copy of the live dots, in a new arena, with ids of their own, of which none is spent. Fails only when out of memory.
     pub fn copy(&self) -> Result<Self, Memory>
         ensures live { IfOk result (λ copy. copy.live ≡ self.now.live) }
         ensures spent { IfOk result (λ copy. copy.spent ≡ set.empty) }
@@ -302,22 +303,22 @@ impl<const LAST: u32> LiveCells<LAST> {
 }
 
 impl LiveCells<LAST_GENERATION> {
-    /// The live dots in their order, each with its cell. Only there for the last generation of sets, `LAST_GENERATION`.
+    /// The live dots in order, each with its cell. Exists only for the last generation of sets, `LAST_GENERATION`.
     pub fn iter(&self) -> Cells<'_>
         ensures { result ≡ map.entries self.now.live }
     {
         Cells::of(&self.placed)
     }
 
-    /// A cursor, to look for many dots in their order. Only there for the last generation of sets, `LAST_GENERATION`.
+    /// A cursor, to look up many dots in order. Exists only for the last generation of sets, `LAST_GENERATION`.
     pub fn cursor(&self) -> Cursor<'_>
         ensures { result ≡ self.now.live }
     {
         Cursor::of(&self.placed)
     }
 
-    /// Lets each dot of a context be live no more that isn't live there; its id is spent then. The list of ids by dots is
-    /// walked as a whole, and both are where any goes. Only there for the last generation of sets, `LAST_GENERATION`.
+    /// Removes each live dot of a context that isn't live there, and spends its id. The list of ids by dots is walked as a
+    /// whole, and both lists are if a dot is removed. Exists only for the last generation of sets, `LAST_GENERATION`.
     pub fn thin(&mut self, known: &Context, there: &Self)
         ensures thinned { IsThinned (dead_there known.now.dots there.now.live) self.old self.new }
         ensures few { map.len self.new.live ≤ map.len self.old.live }
@@ -326,16 +327,15 @@ impl LiveCells<LAST_GENERATION> {
         keep_ids(&self.placed, &mut self.members);
     }
 
-    /// The live dots of a member, in their order. Only there for the last generation of sets, `LAST_GENERATION`.
+    /// The live dots of a member, in order. Exists only for the last generation of sets, `LAST_GENERATION`.
     pub fn dots(&self, member: &Member) -> Dots<'_>
         ensures { result ≡ dots_of (view_of self.now.live) member.now }
     {
         Dots::of(self.index(), member)
     }
 
-    /// The row of a member, where it has a live dot: each field is that of the greatest stamp over its live dots, of equal
-    /// stamps that of the least dot, and its default where none is set. Only there for the last generation of sets,
-    /// `LAST_GENERATION`.
+    /// The row of a member with a live dot: each field is that of the greatest stamp over its live dots, for equal stamps
+    /// that of the least dot, and its default if none is set. Exists only for the last generation of sets, `LAST_GENERATION`.
     pub fn row(&self, member: &Member) -> Option<Row<'_>>
         ensures { option_map row_view result ≡ row_of (view_of self.now.live) member.now }
     {
@@ -343,7 +343,7 @@ impl LiveCells<LAST_GENERATION> {
     }
 
     /// The rows of a queue, one by one: each interface that has a live dot there once, with its row, in the order of the
-    /// interfaces' bytes. Only there for the last generation of sets, `LAST_GENERATION`.
+    /// interfaces' bytes. Exists only for the last generation of sets, `LAST_GENERATION`.
     pub fn rows(&self, queue: u16) -> Rows<'_>
         ensures { result ≡ rows_of (view_of self.now.live) queue }
     {

@@ -16,7 +16,7 @@ pub struct LiveDot {
     pub dot: Dot,
     /// Its member.
     pub member: Member,
-    /// What is set of it.
+    /// Its fields.
     pub fields: Fields,
 }
 
@@ -31,7 +31,7 @@ impl LiveDot {
         }
     }
 
-    // How it lies to another one in the index of members.
+    // Its order to another one in the index of members.
     pub(crate) fn order(&self, other: &LiveDot) -> Ordering
         ensures { result ≡ listed_cmp (listing self.now) (listing other.now) }
     {
@@ -39,14 +39,14 @@ impl LiveDot {
         by_member.then(self.dot.cmp(&other.dot))
     }
 
-    // Whether it lies before another one in the index of members.
+    // Whether it precedes another one in the index of members.
     pub(crate) fn is_listed_before(&self, other: &LiveDot) -> bool
         ensures { result ≡ is_lt (listed_cmp (listing self.now) (listing other.now)) }
     {
         self.order(other).is_lt()
     }
 
-    // The same once more.
+    // Returns a copy.
     pub(crate) fn copy(&self) -> LiveDot
         ensures { result ≡ self.now }
     {

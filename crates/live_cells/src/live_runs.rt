@@ -1,10 +1,10 @@
-//! Runs of live dots: those of one site, with counts that follow one another.
+//! Runs of live dots: dots of one site with consecutive counts.
 ghost use Rattle.std.specs.Prelude.{◌≡◌, ◌-◌, ◌<◌, ◌≤◌, ◌^◌, length};
 ghost use Rattle.live_cells.specs.LiveRuns.{IsLiveRun, run-prop};
 
 use crate::placed::Placed;
 
-// A run that begins at a place of live dots: the last place of it that is known, and one past that, before which it ends.
+// A run that begins at a place of live dots: the last place known to be in it, and a place past that, before which it ends.
 #[derive(Drop)]
 struct LiveRun<'a> {
     dots: &'a [Placed],
@@ -19,7 +19,7 @@ struct LiveRun<'a> {
 }
 
 impl<'a> LiveRun<'a> {
-    // Goes on by so many places, if the dots up to there are of the run; else it ends before.
+    // Advances by `step` places, if the dots up to there are of the run. Otherwise the end of the run is before that place.
     fn go(&mut self, step: usize) -> bool
         requires some { 0 < step }
         requires within { step < self.old.past - self.old.last }
@@ -42,8 +42,9 @@ impl<'a> LiveRun<'a> {
     }
 }
 
-/// A place up to which the dots from a place on are a run: the last one, where dots rise. It is sought by steps that double,
-/// and then by halving. No clause says that it is the last one: what reads runs is right also where one is told in parts.
+/// Returns a place up to which the dots from `first` on are a run: the last one, where dots rise. The search uses steps that
+/// double, and then bisection. No clause states that it is the last one: code that reads runs is right also if a run is
+/// given in parts.
 pub fn live_run_end(dots: &[Placed], first: usize) -> usize
     requires { first < length dots.now }
     ensures least { first ≤ result }

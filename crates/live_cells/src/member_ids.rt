@@ -16,7 +16,7 @@ use op_arena::CellId;
 use std::alloc::Global;
 use std::cmp::Ordering;
 
-// How the cells of two ids lie in the index; an id without a cell lies before those that have one.
+// The order of the cells of two ids in the index; an id without a cell precedes those that have one.
 fn order_of<const LAST: u32>(cells: &PlacedCells<LAST>, id: CellId, other: CellId) -> Ordering
     ensures { result ≡ id_order cells.now.held id other }
 {
@@ -28,7 +28,7 @@ fn order_of<const LAST: u32>(cells: &PlacedCells<LAST>, id: CellId, other: CellI
     }
 }
 
-// Sorts ids by their cells, where they aren't in that order yet.
+// Sorts ids by their cells, if they aren't sorted yet.
 fn sort_members<const LAST: u32>(cells: &PlacedCells<LAST>, members: &mut Vec<CellId>)
     ensures same { IsPermutation members.old.items members.new.items }
     ensures sorted { IsSorted (id_order cells.now.held) members.new.items }
@@ -49,7 +49,7 @@ fn sort_members<const LAST: u32>(cells: &PlacedCells<LAST>, members: &mut Vec<Ce
     );
 }
 
-// Makes the index of all that is placed, in an empty list with room for it.
+// Makes the index of all placed cells, in an empty list with room for it.
 pub(crate) fn list_members<const LAST: u32>(cells: &PlacedCells<LAST>, members: &mut Vec<CellId>)
     requires empty { members.old.items ≡ [] }
     requires room { length cells.now.dots ≤ vec_capacity members.old }
@@ -63,8 +63,8 @@ pub(crate) fn list_members<const LAST: u32>(cells: &PlacedCells<LAST>, members: 
     sort_members(cells, members);
 }
 
-// Merges ids that rise by their cells into others that do, in room that is there. It goes from the back, and stops where
-// none of them is left, so that nothing before them is read.
+// Merges sorted ids into other sorted ids, in room that is there. Works from the back, and stops if none of the former is
+// left, so that nothing before them is read.
 pub(crate) fn merge_members<const LAST: u32>(
     cells: &PlacedCells<LAST>,
     own: &mut Devector<CellId>,
@@ -93,8 +93,8 @@ pub(crate) fn merge_members<const LAST: u32>(
     }
 }
 
-// The id that the cell of an id has in a copy. Its dot is looked for first at the place of the id's index: there it is where
-// cells came in the order of their dots and none went, as in what was read or copied.
+// The id that the cell of an id has in a copy. Its dot is first looked for at the place of the id's index: it is there if
+// cells were added in the order of their dots and none was removed, as in a set that was decoded or copied.
 fn id_in<const LAST: u32>(
     index: MemberIndex<'_, LAST>,
     id: CellId,
@@ -111,7 +111,7 @@ fn id_in<const LAST: u32>(
     }
 }
 
-// The ids that the cells of an index have in a copy. The one fault is want of memory.
+// The ids that the cells of an index have in a copy. Fails only when out of memory.
 pub(crate) fn copy_members<const LAST: u32>(
     alloc: Global,
     index: MemberIndex<'_, LAST>,

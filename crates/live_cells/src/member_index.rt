@@ -1,4 +1,4 @@
-//! The index of members, lent: where the ids of a member stand in it, or of a queue.
+//! The index of members, borrowed: the places of the ids of a member in it, or of a queue.
 ghost use Rattle.std.specs.Prelude.{◌≡◌, ◌≤◌, length, true, false, None, IfSome};
 ghost use Rattle.std.specs.FinMap as map;
 ghost use Rattle.std.specs.List.{All, AllWithin, list_any};
@@ -89,7 +89,7 @@ impl<'a, const LAST: u32> MemberIndex<'a, LAST> {
         )
     }
 
-    // The place of the first id whose cell is of a member that doesn't lie before another one. It is found by halving.
+    // The place of the first id whose cell is of this member or a later one. It is found by bisection.
     fn place_of(self, member: &Member) -> usize
         ensures within { result ≤ length self.entry.ids.now }
         ensures first { IsPartitionPoint (λ l. is_lt (member_cmp l.member member.now) ≡ true)
@@ -106,8 +106,8 @@ impl<'a, const LAST: u32> MemberIndex<'a, LAST> {
         )
     }
 
-    // The place past the ids of members that don't lie after another one; the first `known` ids are some of these. It
-    // walks the others, since its callers read them too.
+    // The place past the ids of this member and of earlier ones; the first `known` ids are some of these. Walks the
+    // others, since its callers read them too.
     pub(crate) fn end_of(self, known: usize, member: &Member) -> usize
         requires within { known ≤ length self.ids.now }
         requires known { AllWithin (λ l. is_le (member_cmp l.member member.now) ≡ true)
@@ -140,7 +140,7 @@ impl<'a, const LAST: u32> MemberIndex<'a, LAST> {
         &self.ids[first..end]
     }
 
-    // Whether it has an id of a member. Where it has, one stands at the place of the first.
+    // Whether the index has an id of a member. If it has, one is at the place of the first.
     pub(crate) fn has_member(self, member: &Member) -> bool
         ensures { result
             ≡ list_any (is_own member.now)
@@ -154,7 +154,7 @@ impl<'a, const LAST: u32> MemberIndex<'a, LAST> {
         is_upto(self.cells, members[place], member)
     }
 
-    // How many ids stand before those of a queue. They are found by halving.
+    // The number of ids before those of a queue. They are found by bisection.
     pub(crate) fn place_of_queue(self, queue: u16) -> usize
         ensures reached { IsReached queue (listed_at self.entry.cells.now.held self.entry.ids.now)
             result }

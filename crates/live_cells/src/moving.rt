@@ -1,4 +1,4 @@
-//! Cells that are moved from one arena into another.
+//! Moves cells from one arena into another.
 ghost use Rattle.std.specs.Prelude.{◌≡◌, ◌+◌, ◌≤◌, length};
 ghost use Rattle.std.specs.List.{IsDistinct};
 ghost use Rattle.std.specs.Ordering.{eq_by_cmp};
@@ -10,8 +10,8 @@ use crate::live_dot::LiveDot;
 use crate::placed::Placed;
 use op_arena::{Arena, CellId};
 
-// Moves the cells of ids, in their order, in room that is there. Each id becomes the one that its cell has then, and stands with its
-// dot at the same place of a list that is as long.
+// Moves the cells of ids, in order, into room that is there. Each id is replaced by the new id of its cell, which is listed with
+// its dot at the same place of a list of the same length.
 pub(crate) fn move_cells<const LAST: u32>(
     cells: &mut Arena<LiveDot, LAST>,
     others: &mut Arena<LiveDot, LAST>,

@@ -35,7 +35,7 @@ use std::alloc::Global;
 use std::collections::VecDeque;
 use std::marker::Model;
 
-// The live dots in their order, each with the id of its cell, and the cells in the arena.
+// The live dots in order, each with the id of its cell, and the cells in the arena.
 #[derive(Drop)]
 pub(crate) struct PlacedCells<const LAST: u32> {
     dots: Devector<Placed>,
@@ -78,7 +78,7 @@ fn join_held<const LAST: u32>(cells: &mut Arena<LiveDot, LAST>, id: CellId, fiel
 }
 
 impl<const LAST: u32> PlacedCells<LAST> {
-    // Nothing is placed. It takes no memory.
+    // No placed dots. Takes no memory.
     pub(crate) fn new(alloc: Global) -> Self
         ensures dots { result.dots ≡ [] }
         ensures held { result.held ≡ map.empty }
@@ -97,7 +97,7 @@ impl<const LAST: u32> PlacedCells<LAST> {
         self.dots.allocator()
     }
 
-    // How many dots are placed.
+    // The number of placed dots.
     pub(crate) fn len(&self) -> usize
         ensures value { result ≡ length self.now.dots }
         ensures limit { retired_of LAST self.now.spent + result ≤ most_places }
@@ -108,7 +108,7 @@ impl<const LAST: u32> PlacedCells<LAST> {
         self.dots.len()
     }
 
-    // For how many dots there is room in all.
+    // The number of dots for which there is room in all.
     pub(crate) fn room(&self) -> usize
         ensures value { result ≡ self.now.room }
         ensures limit { retired_of LAST self.now.spent + result ≤ most_places }
@@ -118,14 +118,14 @@ impl<const LAST: u32> PlacedCells<LAST> {
             .min(self.dots.len() + self.cells.spare() as usize)
     }
 
-    // How many places aren't used again.
+    // The number of retired places.
     pub(crate) fn retired(&self) -> u32
         ensures { result ≡ retired_of LAST self.now.spent }
     {
         self.cells.retired()
     }
 
-    // The dots in their order, each with its id.
+    // The dots in order, each with its id.
     pub(crate) fn placed(&self) -> PlacedDots<'_>
         ensures value { result.list.now ≡ self.now.dots }
         ensures valid { IsPlaced self.now }
@@ -135,7 +135,7 @@ impl<const LAST: u32> PlacedCells<LAST> {
         }
     }
 
-    // The place of a dot, or, where it isn't placed, the place where it would go in.
+    // The place of a dot, or, if it isn't placed, the place where it would be inserted.
     pub(crate) fn find(&self, dot: Dot) -> Result<usize, usize>
         ensures found { IfOk result (IsCellAt (cells_of self.now) dot) }
         ensures missed { IfErr result (IsGap (cells_of self.now) dot) }
@@ -144,7 +144,7 @@ impl<const LAST: u32> PlacedCells<LAST> {
         self.find_from(self.dots.len(), dot)
     }
 
-    // The same, where a guess is looked at first.
+    // The place of a dot, or, if it isn't placed, the place where it would be inserted. A guess is tried first.
     pub(crate) fn find_from(&self, guess: usize, dot: Dot) -> Result<usize, usize>
         ensures found { IfOk result (IsCellAt (cells_of self.now) dot) }
         ensures missed { IfErr result (IsGap (cells_of self.now) dot) }
@@ -207,7 +207,7 @@ impl<const LAST: u32> PlacedCells<LAST> {
         }
     }
 
-    // Puts the cell of a dot that isn't placed in at its place, in room that is there.
+    // Inserts the cell of a dot that isn't placed at its place, in room that is there.
     #[inline(always)]
     pub(crate) fn insert(&mut self, place: usize, cell: LiveDot) -> CellId
         requires gap { IsGap (cells_of self.old) cell.dot place }
@@ -231,7 +231,7 @@ impl<const LAST: u32> PlacedCells<LAST> {
         id
     }
 
-    // Takes out the cell at a place.
+    // Removes the cell at a place.
     pub(crate) fn remove(&mut self, place: usize) -> LiveDot
         requires { place < length self.old.dots }
         ensures value { (d : live_dot) → result ≡ slice_index_or (cells_of self.old) place d }
@@ -248,8 +248,8 @@ impl<const LAST: u32> PlacedCells<LAST> {
         self.cells.take(placed.id).unwrap()
     }
 
-    // Lets the dots of a context be placed no more that aren't live there. The list of dots is walked twice: first cells are
-    // freed, then the dots without a cell are left out.
+    // Removes the placed dots of a context that aren't live there. The list of dots is walked twice: first cells are freed,
+    // then the dots without a cell are removed.
     pub(crate) fn thin(&mut self, known: &Context, there: Cursor<'_>)
         ensures freed { AreFreed self.old.dots self.old.held self.old.spent self.new.held
             self.new.spent }
@@ -283,7 +283,7 @@ impl<const LAST: u32> PlacedCells<LAST> {
         join_held(&mut self.cells, id, fields);
     }
 
-    // The same cells once more, in a new arena. The one fault is want of memory.
+    // A copy of the cells, in a new arena. Fails only when out of memory.
     pub(crate) fn copy(&self) -> Result<Self, Memory>
         ensures cells { IfOk result (λ copy. cells_of copy ≡ cells_of self.now) }
         ensures spent { IfOk result (λ copy. copy.spent ≡ set.empty) }
@@ -299,8 +299,8 @@ impl<const LAST: u32> PlacedCells<LAST> {
         Ok(copy)
     }
 
-    // Lets the dots of others be placed, none of which is, in room that is there. Their cells are moved, in the order of the
-    // ids of their index, each of which becomes the one that its cell has here. It takes no memory.
+    // Places the dots of others, none of which is placed here, in room that is there. Their cells are moved, in the order of
+    // the ids of their index; each of these ids is replaced by the new id of its cell. Takes no memory.
     pub(crate) fn append(&mut self, others: Self, members: &mut Vec<CellId>)
         requires index { AreIndexed others members.old.items }
         requires apart { (id : Id) (cell : live_dot) → map.get others.held id ≡ Some cell
@@ -320,7 +320,7 @@ impl<const LAST: u32> PlacedCells<LAST> {
         merge_dots(&mut self.dots, &dots);
     }
 
-    // The cells of all that are placed, to be taken one by one from the first on.
+    // All placed cells, to be taken one by one from the first on.
     pub(crate) fn into_cells(self) -> TakenCells<LAST>
         ensures { result ≡ entries_of (cells_of self.entry) }
     {

@@ -1,4 +1,4 @@
-//! Live dots in their order, lent, each with the id of its cell.
+//! Live dots in order, lent, each with the id of its cell.
 ghost use Rattle.std.specs.Prelude.{◌≡◌, ◌≤◌, ◌<◌, ◌+◌, ◌^◌, length, true, false, filter, not};
 ghost use Rattle.std.specs.List.{AllWithin, count_by};
 ghost use Rattle.std.specs.FinSet as set;
@@ -11,7 +11,7 @@ use crate::placed::Placed;
 use causal_context::{Context, Run};
 use dots::{Dot, SiteId};
 
-/// Live dots that rise, each with the id of its cell. To look among them takes no memory.
+/// Sorted live dots, each with the id of its cell. To search them takes no memory.
 #[derive(Clone, Copy)]
 pub struct PlacedDots<'a> {
     /// The dots from the least on, each with its id.
@@ -19,7 +19,7 @@ pub struct PlacedDots<'a> {
     ghost rise: { AreRising list.now },
 }
 
-// Whether a dot lies before that of a site and a count.
+// Whether a dot precedes that of a site and a count.
 fn lies_before(placed: &Placed, site: SiteId, count: u64) -> bool
     ensures { result ≡ is_lt (dot_cmp placed.now.dot (record { site = site; count = count })) }
 {
@@ -27,7 +27,7 @@ fn lies_before(placed: &Placed, site: SiteId, count: u64) -> bool
     dot.site() < site || dot.site() == site && dot.count() < count
 }
 
-// Whether a dot lies before that of a site and a count, or is it.
+// Whether a dot precedes that of a site and a count, or is it.
 fn lies_upto(placed: &Placed, site: SiteId, count: u64) -> bool
     ensures { result
         ≡ is_lt (dot_cmp placed.now.dot (next_dot (record { site = site; count = count }))) }
@@ -37,7 +37,7 @@ fn lies_upto(placed: &Placed, site: SiteId, count: u64) -> bool
 }
 
 impl<'a> PlacedDots<'a> {
-    /// How many of them lie before a dot. They are found by halving.
+    /// The number of dots before a dot. They are found by bisection.
     pub fn place(self, dot: Dot) -> usize
         ensures within { result ≤ length self.entry.list.now }
         ensures before { AllWithin (λ p. is_lt (dot_cmp p.dot dot) ≡ true) self.entry.list.now 0
@@ -48,8 +48,8 @@ impl<'a> PlacedDots<'a> {
         self.list.partition_point(|placed| placed.dot < dot)
     }
 
-    /// Whether the one at a place lies before a dot; past the end it is false. Where it is false, none from there on
-    /// lies before that dot.
+    /// Whether the dot at a place precedes a dot; past the end it is false. If it is false, none from there on
+    /// precedes that dot.
     pub fn is_passed(self, place: usize, dot: Dot) -> bool
         ensures within { result ≡ true → place < length self.entry.list.now }
         ensures limit { length self.entry.list.now < 2 ^ 64 }
@@ -66,7 +66,7 @@ impl<'a> PlacedDots<'a> {
         self.list[place].dot < dot
     }
 
-    // Whether a place is that of a dot: all before it lie before the dot, and no others.
+    // Whether a place is that of a dot: exactly the dots before it precede the dot.
     fn is_place(self, place: usize, dot: Dot) -> bool
         ensures within { result ≡ true → place ≤ length self.entry.list.now }
         ensures before { result ≡ true
@@ -84,7 +84,7 @@ impl<'a> PlacedDots<'a> {
         self.is_passed(place - 1, dot)
     }
 
-    // How many of them lie before a dot. A guess is looked at first; where it is wrong, they are found by halving.
+    // The number of dots before a dot. A guess is tried first; if it is wrong, they are found by bisection.
     pub(crate) fn place_from(self, guess: usize, dot: Dot) -> usize
         ensures within { result ≤ length self.entry.list.now }
         ensures before { AllWithin (λ p. is_lt (dot_cmp p.dot dot) ≡ true) self.entry.list.now 0
@@ -98,7 +98,7 @@ impl<'a> PlacedDots<'a> {
         self.place(dot)
     }
 
-    /// Those of a run. They are found by halving.
+    /// The dots of a run. They are found by bisection.
     pub fn dots_in(self, run: Run) -> &'a [Placed]
         ensures { result.now ≡ filter (λ p. in_run p.dot run) self.entry.list.now }
     {
@@ -112,7 +112,7 @@ impl<'a> PlacedDots<'a> {
         &self.list[start..end]
     }
 
-    /// How many of them aren't in a context. Those of each of its runs are found by halving.
+    /// The number of dots that aren't in a context. Those of each of its runs are found by bisection.
     pub fn count_outside(self, known: &Context) -> usize
         ensures { result
             ≡ count_by (λ p. not (set.contains known.now.dots p.dot)) self.entry.list.now }
@@ -125,7 +125,7 @@ impl<'a> PlacedDots<'a> {
         left
     }
 
-    /// The first of those of a run, where there is one. It is found by halving.
+    /// The first dot of a run, if there is one. It is found by bisection.
     pub fn next_in(self, run: Run) -> Option<Dot>
         ensures { IsNextIn self.entry.list.now run.site run.first run.last result }
     {

@@ -1,4 +1,4 @@
-//! Lists of live dots that rise, which are merged.
+//! Merges sorted lists of live dots.
 ghost use Rattle.std.specs.Prelude.{◌≡◌, ◌≤◌, ◌+◌, ◌++◌, length};
 ghost use Rattle.std.specs.List.Sorted.{IsPermutation, IsStrictlySortedBy};
 ghost use Rattle.live_cells.specs.Merges.{AreUntied, placed_cmp};
@@ -6,8 +6,8 @@ ghost use Rattle.live_cells.specs.Merges.{AreUntied, placed_cmp};
 use crate::placed::Placed;
 use devector::Devector;
 
-// Merges others that rise into a list that rises, in room that is there. It goes from the back, and stops where none of the
-// others is left, so that nothing before them is read.
+// Merges a sorted list into a sorted list, in room that is there. Works from the back, and stops if none of the others is
+// left, so that nothing before them is read.
 pub(crate) fn merge_dots(own: &mut Devector<Placed>, others: &[Placed])
     requires own { IsStrictlySortedBy placed_cmp own.old.items }
     requires others { IsStrictlySortedBy placed_cmp others.now }

@@ -9,8 +9,8 @@ use crate::places::LAST_GENERATION;
 use dots::Interface;
 use std::marker::Model;
 
-/// The members of one queue with their rows, in the order of their interfaces' bytes: those that are left to go over.
-/// It takes no memory.
+/// The members of one queue with their rows that are left to visit, in the order of their interfaces' bytes. Takes no
+/// memory.
 #[derive(Drop)]
 pub struct Rows<'a> {
     index: MemberIndex<'a, LAST_GENERATION>,
@@ -38,7 +38,7 @@ impl<'a> Rows<'a> {
     ghost use Rattle.live_cells.specs.PlacedStates.{cells_of};
     ghost use Rattle.live_cells.specs.ShownRows.{cells_view, rows_after};
 
-    // Those of a queue, by the index of members.
+    // The rows of a queue, by the index of members.
     pub(crate) fn of(index: MemberIndex<'a, LAST_GENERATION>, queue: u16) -> Rows<'a>
         ensures { result ≡ rows_after (cells_view (cells_of index.entry.cells.now)) queue None }
     {

@@ -7,7 +7,7 @@ use op_arena::Arena;
 use std::collections::VecDeque;
 use std::marker::Model;
 
-/// The cells of live dots that are left to be taken, in the order of the dots. It takes no memory.
+/// The cells of live dots that are left to be taken, in the order of the dots. Takes no memory.
 #[derive(Drop)]
 pub struct TakenCells<const LAST: u32> {
     pub(crate) dots: VecDeque<Placed>,
@@ -35,7 +35,7 @@ impl<const LAST: u32> Model for TakenCells<LAST> {
 }
 
 impl<const LAST: u32> TakenCells<LAST> {
-    /// The cell of the first dot that is left, where there is one.
+    /// The cell of the first dot that is left, if there is one.
     pub fn take_first(&mut self) -> Option<LiveDot>
         ensures none { result ≡ None → self.old ≡ [] }
         ensures ended { result ≡ None → self.new ≡ [] }

@@ -3,7 +3,7 @@ use Rattle.std.proofs.Common.{◌≡◌, ◌↔◌, IsTrue, IsFalse, Bool, true,
 use Rattle.operations.specs.Registers.{Entry, RegistersInConflict}
 use Rattle.operations.proofs.RegisterLaws.{one_entry}
 
--- of two entries under one stamp, a test whether their values are one tells whether the registers are in conflict
+-- of two entries under one stamp, a test whether their values are equal decides whether the registers are in conflict
 pub conflict_by_test : {T : Type 0} (x y : Option (Entry T)) (a b : Entry T) → x ≡ Some a → y ≡ Some b → a.stamp ≡ b.stamp
     → (r : Bool) → (IsTrue r ↔ (a.value ≡ b.value)) → IsFalse r ↔ RegistersInConflict x y
 conflict_by_test x y a b p q s true h = (

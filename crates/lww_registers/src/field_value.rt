@@ -2,14 +2,14 @@ ghost use Rattle.std.specs.Prelude.{◌≡◌, ◌↔◌, IsTrue};
 
 use dots::{Label, Pause, Penalty};
 
-/// A value that a register can keep: it is told from every other value of its type, and copied without
-/// memory (this project's own).
+/// A value that a register can keep: values of its type can be compared, and are copied without memory
+/// (this project's own).
 pub trait FieldValue: Drop {
     /// Whether both are the very same value.
     fn same(&self, other: &Self) -> bool
         ensures { IsTrue result ↔ (self.now ≡ other.now) };
 
-    /// The same value once more.
+    /// Returns a copy.
     fn duplicate(&self) -> Self
         ensures { result ≡ self.now };
 }

@@ -5,7 +5,7 @@ use crate::Register;
 use dots::{Label, Pause, Penalty};
 use std::marker::Model;
 
-/// What is set of a member on one dot: four registers, each joined by its own stamps (this project's own).
+/// The fields of a member on one dot: four registers, each joined by its own stamps.
 #[derive(Drop)]
 pub struct Fields {
     /// The penalty of the member.
@@ -83,7 +83,7 @@ impl Fields {
             && self.ring.same(&other.ring)
     }
 
-    /// The same fields once more.
+    /// Returns a copy.
     pub fn copy(&self) -> Fields
         ensures { result ≡ self.now }
     {

@@ -1,5 +1,6 @@
 //! Last-writer-wins registers (RR-7506): a register keeps the value that was written under the greatest
-//! stamp, and a dot's fields are four registers that are joined side by side. Nothing here takes memory.
+//! stamp, and a dot's fields are four registers that are joined one by one. No function here takes
+//! memory.
 #![tactic(auto)]
 
 mod field_value;

@@ -6,7 +6,7 @@ use crate::FieldValue;
 use dots::Stamp;
 use std::marker::Model;
 
-/// A last-writer-wins register (RR-7506): nothing yet, or a value with the stamp under which it was written.
+/// A last-writer-wins register (RR-7506): empty, or a value with the stamp under which it was written.
 #[derive(Drop)]
 pub struct Register<T> {
     entry: Option<(Stamp, T)>,
@@ -23,7 +23,7 @@ impl<T> Model for Register<T> {
 }
 
 impl<T> Register<T> {
-    /// A register that nothing was written to.
+    /// An empty register.
     pub fn none() -> Self
         ensures { result ≡ None }
     {
@@ -39,7 +39,7 @@ impl<T> Register<T> {
         }
     }
 
-    /// Whether nothing was written to this register.
+    /// Whether the register is empty.
     pub fn is_none(&self) -> bool
         ensures { IsTrue result ↔ (self.now ≡ None) }
     {
@@ -109,7 +109,7 @@ impl<T: FieldValue> Register<T> {
         }
     }
 
-    /// The same register once more.
+    /// Returns a copy.
     pub fn copy(&self) -> Register<T>
         ensures { result ≡ self.now }
     {

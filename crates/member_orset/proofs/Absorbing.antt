@@ -106,7 +106,7 @@ module _ (s t : Members) (heard : (q : Dot) (h : Holding) → map.get s.live q �
           | inr n ↦ absurd (let e = sym none ∙ thin.ids q ∙ ap (λ b. if b then None else map.get old.ids q) n ∙ had in cc e)
         ]
 
-    -- and at most as many ids are spent as dots are dead
+    -- at most as many ids are spent as dots are dead
     pub dead_after : ((q : Dot) → map.contains_key old.ids q ≡ map.contains_key old.live q) → ((q : Dot) → map.contains_key after.ids q ≡ map.contains_key after.live q)
         → AreOfTheDead s.known (map.contains_key old.live) old.spent → AreOfTheDead (set.union s.known t.known) (map.contains_key after.live) after.spent
     dead_after named named_after few =

@@ -30,7 +30,7 @@ fields_apart x y a c = elim c [
   ]
 ]
 
--- nor are conditions
+-- conditions that agree aren't in conflict
 pub conditions_apart : (x y : Option Condition) → ConditionsAgree x y → ConditionsInConflict x y → ⊥
 conditions_apart (Some (Live m f)) (Some (Live n g)) a c = elim c [ inl o ↦ o a.0 | inr r ↦ fields_apart f g a.1 r ]
 conditions_apart (Some (Live m f)) (Some Dead) a c = c
@@ -38,7 +38,7 @@ conditions_apart (Some (Live m f)) None a c = c
 conditions_apart (Some Dead) y a c = c
 conditions_apart None y a c = c
 
--- nor are sets
+-- sets that agree aren't in conflict
 pub sets_apart : (s t : Members) → SetsAgree s t → SetsInConflict s t → ⊥
 sets_apart s t agree c = conditions_apart (condition_of s c.dot) (condition_of t c.dot) (agree c.dot) c.conflict
 

@@ -107,7 +107,7 @@ held_inserted known live d x there field few a = record {
   ];
 }
 
--- as many dots are live where one of them is live with something else
+-- as many dots are live if one of them gets another member or fields
 pub len_again : (live : map.FinMap dot_cmp Holding) (d : Dot) (h x : Holding) → map.get live d ≡ Some h → map.len (map.insert live d x) ≡ map.len live
 len_again live d h x e = map.len-insert dots_total live d x ∙ there (map.get live d) e
   where
@@ -115,7 +115,7 @@ len_again live d h x e = map.len-insert dots_total live d x ∙ there (map.get l
     there None e = absurd (cc e)
     there (Some y) e = refl
 
--- and one more where it wasn't live
+-- one more dot is live if it wasn't live
 pub len_one_more : (live : map.FinMap dot_cmp Holding) (d : Dot) (x : Holding) → map.get live d ≡ None → map.len (map.insert live d x) ≡ map.len live + 1
 len_one_more live d x e = map.len-insert dots_total live d x ∙ there (map.get live d) e
   where
@@ -123,7 +123,7 @@ len_one_more live d x e = map.len-insert dots_total live d x ∙ there (map.get 
     there None e = refl
     there (Some y) e = absurd (cc e)
 
--- its fields are joined with others, where it is live
+-- the fields of a dot are joined with others, if it is live
 pub held_met : (known : set.FinSet dot_cmp) (live : map.FinMap dot_cmp Holding) (d : Dot) (f : DotFields) → AreKept known live → AreKept known (fields_joined_at live d f)
 held_met known live d f a = at (map.get live d) refl
   where

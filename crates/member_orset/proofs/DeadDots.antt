@@ -70,7 +70,7 @@ module _ (known : sets.FinSet dot_cmp) (live : Dot → Bool) (site : ℕ) where
   all_before_next = sets.same_set dots_total dots_exact _ _ (λ q.
       contains_part dead (site + 1) 0 q ∙ under (sets.contains dead q) _ true (λ t. before_next q.site q.count site (dead_site q t)) ∙ and-true (sets.contains dead q))
 
-  -- so they are the dead ones up to the greatest count
+  -- the dots to name are the dead ones up to the greatest count
   pub dead_to_name : (runs : List Run) (last : ℕ) → IsRunsOf runs known → All IsRunWithinLimits runs → 2 ^ 40 ≤ last → AreToName known live [] site last dead
   dead_to_name runs last is limits most = record {
     not_zero = dead_unknown 0 (known_zero runs known site is limits);

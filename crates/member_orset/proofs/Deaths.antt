@@ -104,7 +104,7 @@ heard_keys known live kept q h = at (map.get live q) refl
     at None e = absurd (true≢false (sym h ∙ ap is_some e))
     at (Some x) e = kept.heard q x e
 
--- the same dots are live where the fields of one of them are joined with others
+-- the same dots are live after the fields of one of them are joined with others
 pub same_keys : (live : Live) (d : Dot) (f : DotFields) (q : Dot) → map.contains_key (fields_joined_at live d f) q ≡ map.contains_key live q
 same_keys live d f q = at (map.get live d) refl
   where
@@ -133,7 +133,7 @@ removed_dead live d q dead = ap is_some (map.get-remove dots_total live d q) ∙
     by true = refl
     by false = dead
 
--- the same dots have an id where one of them is live no more
+-- the same dots have an id as are live, after one is removed
 pub removed_named : (ids : IdMap) (live : Live) (d : Dot) → ((q : Dot) → map.contains_key ids q ≡ map.contains_key live q)
     → (q : Dot) → map.contains_key (map.remove ids d) q ≡ map.contains_key (map.remove live d) q
 removed_named ids live d named q = ap is_some (map.get-remove dots_total ids d q) ∙ by (eq_by_cmp dot_cmp q d) ∙ sym (ap is_some (map.get-remove dots_total live d q))

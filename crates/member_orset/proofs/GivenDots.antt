@@ -87,7 +87,7 @@ module _ (given : List Dot) (rise : IsSorted dot_cmp given) where
   pub parted_upto_site : (site : ℕ) → IsPartitionedBy (λ d. nat_le d.site site) given
   parted_upto_site site i j d o l t = site_upto (get_or given j d).site (get_or given i d).site (get_or given i d).count (get_or given j d).count site (in_order i j d o l) t
 
-  -- those of a site stand between two places
+  -- the dots of a site are between two places
   module _ (site start end : ℕ) (within : end ≤ length given) (before : AllWithin (λ d. nat_lt d.site site ≡ true) given 0 start) (from : AllWithin (λ d. nat_lt d.site site ≡ false) given start (length given))
       (upto : AllWithin (λ d. nat_le d.site site ≡ true) given 0 end) (past : AllWithin (λ d. nat_le d.site site ≡ false) given end (length given)) where
     pub site_in_order : start ≤ length given → start ≤ end

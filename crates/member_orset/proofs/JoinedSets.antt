@@ -58,7 +58,7 @@ module _ (test : Dot → Bool) where
       let parts = and_parts (is_lt (dot_cmp d p.dot)) (below_all dot_cmp d (id_entries ps)) h in
       or_from _ _ (apart_after d p.dot parts.0) (none_below d ps parts.1)
 
-  -- they are new to a set that has none of them
+  -- dots that pass a test are new to a set that has none of them
   pub new_kept : (s : set.FinSet dot_cmp) (ps : List Placed) → Rise ps → ((q : Dot) → is_placed ps q ≡ true → test q ≡ true → set.contains s q ≡ false) → AreNew s (kept ps)
   new_kept s [] rise none = tt
   new_kept s (p ∷ ps) rise none = at (test p.dot) refl (new_kept s ps (rise_tail p ps rise) (λ q h t. none q (ap (λ b. eq_by_cmp dot_cmp q p.dot || b) h ∙ or-true (eq_by_cmp dot_cmp q p.dot)) t))

@@ -26,7 +26,7 @@ Dots = set.FinSet dot_cmp
 abbrev Live : Type 0
 Live = map.FinMap dot_cmp Holding
 
--- the same, by equations
+-- the invariant of equal sets is the same
 pub set_same : (known after : Dots) (live now : Live) (spent new : IdSet) → after ≡ known → now ≡ live → new ≡ spent → IsSet known live spent → IsSet after now new
 set_same known after live now spent new k l s is = subst (λ (X : Type 0). X) (λ i. IsSet (sym k i) (sym l i) (sym s i)) is
 

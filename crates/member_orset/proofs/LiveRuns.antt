@@ -33,7 +33,7 @@ module _ (dots : List Placed) (rise : Rise dots) (e : Placed) where
     | inr m ↦ let same : i ≡ j = omega arith in let site = ap (λ n. (dot n).site) same in omega arith
   ]
 
-  -- so many places on, of one site, the count is greater by so many at least
+  -- `n` places on, at the same site, the count is greater by at least `n`
   counts_spread : (i n : ℕ) → i + n < length dots → (dot i).site ≡ (dot (i + n)).site → (dot i).count + n ≤ (dot (i + n)).count
   counts_spread i zero l s = let same : i + 0 ≡ i = omega arith in let count = ap (λ m. (dot m).count) same in omega arith
   counts_spread i (suc n) l s =
@@ -59,7 +59,7 @@ module _ (dots : List Placed) (rise : Rise dots) (e : Placed) where
       let last = ap (λ j. (dot j).count) end in
       (sym site, omega arith)
 
-  -- so the dots of these counts are live
+  -- the dots of the counts of a live run are live
   pub run_placed : (i k c : ℕ) → i ≤ k → k < length dots → IsLiveRun dots i k → (dot i).count ≤ c → c ≤ (dot k).count → is_placed dots (record { site = (dot i).site; count = c }) ≡ true
   run_placed i k c h l run lo hi =
       let m = i + (c - (dot i).count) in

@@ -191,7 +191,7 @@ no_part dots site from = sets.same_set dots_total dots_exact _ _ (λ q.
 all_first : (t c s : ℕ) → t < s → (nat_lt t s || (nat_eq t s && nat_lt c 0)) ≡ true
 all_first t c s h = grind (arith, nat_tests)
 
--- and past the greatest one there is nothing more
+-- past the greatest site there is no further dot
 pub whole_part : (dots : Dots) (site : ℕ) → ((q : Dot) → sets.contains dots q ≡ true → q.site < site) → part_before dots site 0 ≡ dots
 whole_part dots site below = sets.same_set dots_total dots_exact _ _ (λ q.
     contains_part dots site 0 q ∙ under (sets.contains dots q) _ true (λ t. all_first q.site q.count site (below q t)) ∙ and-true (sets.contains dots q))
@@ -269,7 +269,7 @@ module _ (known : Dots) (live : Dot → Bool) (given : List Dot) (site last : �
       ∙ or_from _ _ (list_any_none (eq_by_cmp dot_cmp (at site 0)) given (All-weaker (λ d. d.site ≡ site → 1 ≤ d.count) (λ d. eq_by_cmp dot_cmp (at site 0) d ≡ false) (λ d m. not_this site 0 d (λ s c. let k = m s in omega arith)) given g.least))
       (ap (λ b. b && (not (live (at site 0)) && is_older given (at site 0))) k)
 
-  -- so those of the site are the given and the dead ones up to there
+  -- the seen dots of a site are the given and the dead ones up to the greatest given count
   up_to : (n : ℕ) → 1 ≤ n → n ≤ last → (is_given given (at site n) || dead_below (at site n)) ≡ is_to_name known live given (at site n)
   up_to n lo hi = elim (cases_lt n last) [
     | inl m ↦ ap (λ b. is_given given (at site n) || (sets.contains known (at site n) && b)) (ap (λ b. not (live (at site n)) && b) (older_below n m) ∙ and-true (not (live (at site n))))

@@ -62,7 +62,7 @@ module _ (known : Dot → Bool) (old now after : LiveState) (there : map.FinMap 
   untouched : map.get now.live c.dot ≡ map.get old.live c.dot
   untouched = met_next c.dot ∙ ap (λ b. met known old there c.dot (cond b (Some (holding c)) (find dot_cmp c.dot left))) (same_tied c.dot c.dot refl)
 
-  -- it agrees with what is live here
+  -- the next cell agrees with what is live here
   pub next_agrees : EntriesAgree old.live (map.entries there) → HoldingsAgree (map.get now.live c.dot) (holding c)
   next_agrees agree = subst (λ o. HoldingsAgree o (holding c)) (sym untouched) (subst (λ (e : Dot × Holding). HoldingsAgree (map.get old.live e.0) e.1) here.2 (agree here.0 (entry_of c) here.1))
 

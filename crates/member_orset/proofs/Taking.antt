@@ -60,7 +60,7 @@ taken_met known s t c dead now ids spent room = elim (look (map.get s.live c.dot
     at q none true same = ap (map.get s.live) (same refl) ∙ none ∙ (λ i. holding_with (sym (ap (map.get s.live) (same refl) ∙ none) i) (sym (ap known (same refl) ∙ dead none) i) (Some (holding c)))
     at q none false same = refl
 
--- as many dots are live then
+-- as many dots are live after the fields of one are joined
 pub len_met : (live : map.FinMap dot_cmp Holding) (d : Dot) (f : DotFields) → map.len (fields_joined_at live d f) ≡ map.len live
 len_met live d f = at (map.get live d) refl
   where
@@ -126,7 +126,7 @@ known_there known there ps placed all q live =
     let found = in_any (λ p. eq_by_cmp dot_cmp q p.dot) ps (placed q ∙ live) in
     ap known (one_dot q found.0.dot found.2 ∙ sym (ap (λ p. p.dot) found.1.2)) ∙ all found.1.0 found.0 found.1.1
 
--- so none of it is left
+-- if each dot that is live there is known, no cell is left
 pub none_left : (known : Dot → Bool) (there none : map.FinMap dot_cmp Holding) → none ≡ map.empty → ((q : Dot) → is_some (map.get there q) ≡ true → known q ≡ true) → (q : Dot) → map.get none q ≡ (if known q then None else map.get there q)
 none_left known there none is all q = ap (λ m. map.get m q) is ∙ map.get-empty dot_cmp q ∙ at (map.get there q) (known q) (all q)
   where
@@ -183,7 +183,7 @@ left_apart known s t there left n q h = at (known q) (n.left q) (n.live q)
     at true e f = absurd (let none = sym h ∙ ap is_some e in cc none)
     at false e f = f
 
--- so all is taken in once what is left is live here too
+-- all cells are joined once what is left is live here too
 pub joined_left : (known : Dot → Bool) (s t u : LiveState) (there left : map.FinMap dot_cmp Holding) → ((q : Dot) → is_some (map.get s.live q) ≡ true → known q ≡ true) → AreNewLeft known s there t left
     → ((q : Dot) → map.get u.live q ≡ option_or (map.get t.live q) (map.get left q)) → HaveGrown t u → IsJoinedWith known s there u
 joined_left known s t u there left heard n live ids = record {

@@ -58,7 +58,7 @@ thinned_one s t d live ids spent room = record {
   room = room;
 }
 
--- the same dots are dropped by another test, which differs only on dots that aren't live
+-- another test that differs only on dots that aren't live removes the same dots
 pub thinned_by : (test other : Dot → Bool) (s t : LiveState) → ((q : Dot) → map.contains_key s.ids q ≡ map.contains_key s.live q) → ((q : Dot) → (test q ≡ other q) ⊎ (map.get s.live q ≡ None)) → IsThinned test s t → IsThinned other s t
 thinned_by test other s t named alike h = record {
   live = λ q. h.live q ∙ by q (map.get s.live q) (alike q) (λ e. e);
@@ -117,7 +117,7 @@ not_live (Some x) b h f = absurd (true≢false (sym (ap not f) ∙ h))
 
 -- a dot of the run with a count from there on, that is dead there and was live, is dropped next
 module _ (run : Run) (there : map.FinMap dot_cmp Holding) (first : ℕ) (old s : LiveState) (named : (q : Dot) → map.contains_key old.ids q ≡ map.contains_key old.live q) (before : IsThinned (dropped_before run there first) old s) where
-  -- where none is live in between, none was
+  -- if no dot is live in between, none was
   none_was : (q : Dot) → dead_in_run run there q ≡ true → first ≤ q.count → map.get s.live q ≡ None → map.get old.live q ≡ None
   none_was q dead past none = ap (λ b. if b then None else map.get old.live q) (sym (ap (λ b. b && nat_lt q.count first) dead ∙ lt_false q.count first past)) ∙ sym (before.live q) ∙ none
 
@@ -183,7 +183,7 @@ module _ (run : Run) (there : map.FinMap dot_cmp Holding) (first : ℕ) (old s :
             | inr n ↦ omega (arith, n)
           ]
 
-  -- and once no more are live
+  -- all dead dots of the run are removed once none is live
   pub dropped_all : ((n : ℕ) → first ≤ n → n ≤ run.last → (map.contains_key s.live (record { site = run.site; count = n }) && not (map.contains_key there (record { site = run.site; count = n }))) ≡ false)
       → IsThinned (dead_in_run run there) old s
   dropped_all none = thinned_by (dropped_before run there first) (dead_in_run run there) old s named (λ q. at q (cases_Bool (dead_in_run run there q))) before

@@ -1,4 +1,4 @@
--- How the dots that given ones stand for are gathered, piece by piece.
+-- The dots seen below given ones, gathered piece by piece.
 use Rattle.std.specs.Prelude.{ℕ, ◌≡◌, ◌<◌, ◌≤◌, ◌+◌, Bool, true, false, not, ◌&&◌, ◌||◌, nat_eq, nat_lt, List, Some, None, if◌then◌else◌}
 use Rattle.std.specs.List.{All, list_any}
 use Rattle.std.specs.FinSet as set

@@ -1,4 +1,4 @@
--- What is live where two sets are joined, or one dot is, and where they are the same.
+-- The live dots of a set after a join with another set or one dot, and whether those of two sets are equal.
 use Rattle.std.specs.Prelude.{ℕ, ◌≡◌, ◌≢◌, ◌≤◌, ◌<◌, ◌+◌, ◌⊎◌, Bool, true, false, not, ◌&&◌, Option, Some, None, List, Contains, if◌then◌else◌}
 use Rattle.std.specs.List.{All}
 use Rattle.std.specs.FinMap as map
@@ -12,8 +12,8 @@ use Rattle.live_cells.specs.LiveLists.{holding}
 use Rattle.live_cells.specs.LiveStates.{HaveGrown, LiveState}
 use Rattle.live_cells.specs.Holdings.{Holding}
 
--- what stays live of a dot that one side knows or not, and the other: live on both sides it is joined, and live on one it
--- stays where the other doesn't know it
+-- what is live of a dot after a join, by what is live of it on each side and whether each side knows it: live on both sides it is
+-- joined, and live on one it stays if the other doesn't know it
 abbrev pub holding_joined : Option Holding → Bool → Option Holding → Bool → Option Holding
 holding_joined (Some h) known (Some g) known_there = Some (h.0, fields_joined h.1 g.1)
 holding_joined (Some h) known None known_there = if known_there then None else Some h
@@ -39,7 +39,7 @@ pub record Clash (live : map.FinMap dot_cmp Holding) (entries : List (Dot × Hol
   pub here : Contains entries entry
   pub conflict : HoldingsInConflict (map.get live entry.0) entry.1
 
--- the answer whether all entries agree with what is live of their dots
+-- whether all entries agree with what is live of their dots
 abbrev pub IsTold : map.FinMap dot_cmp Holding → List (Dot × Holding) → Bool → Type 0
 IsTold live entries true = EntriesAgree live entries
 IsTold live entries false = Clash live entries
@@ -48,7 +48,7 @@ IsTold live entries false = Clash live entries
 abbrev pub dead_in_run : Run → map.FinMap dot_cmp Holding → Dot → Bool
 dead_in_run run there dot = in_run dot run && not (map.contains_key there dot)
 
--- a dot of a run that is live here and not there, with a count from a given one on, and none before it is so
+-- a dot of a run that is live here and not there, with a count from a given one on, and the first such dot
 pub record IsFirstDead (run : Run) (there : map.FinMap dot_cmp Holding) (first : ℕ) (live : map.FinMap dot_cmp Holding) (dot : Dot) : Type 0 where
   pub site_is : dot.site ≡ run.site
   pub least : first ≤ dot.count
@@ -57,36 +57,36 @@ pub record IsFirstDead (run : Run) (there : map.FinMap dot_cmp Holding) (first :
   pub gone : map.contains_key there dot ≡ false
   pub none : (n : ℕ) → first ≤ n → n < dot.count → (map.contains_key live (record { site = run.site; count = n }) && not (map.contains_key there (record { site = run.site; count = n }))) ≡ false
 
--- the first of the dots of a run, from a count on, that are live here and not there, or none where none is so
+-- the first of the dots of a run, from a count on, that are live here and not there, or none if there is none
 abbrev pub IsNextDead : Run → map.FinMap dot_cmp Holding → ℕ → map.FinMap dot_cmp Holding → Option Dot → Type 0
 IsNextDead run there first live None = (n : ℕ) → first ≤ n → n ≤ run.last → (map.contains_key live (record { site = run.site; count = n }) && not (map.contains_key there (record { site = run.site; count = n }))) ≡ false
 IsNextDead run there first live (Some dot) = IsFirstDead run there first live dot
 
--- what is live of a dot once what is live of it there, if anything, was taken in
+-- what is live of a dot after the join with what is live of it there, if anything
 abbrev pub holding_with : Option Holding → Bool → Option Holding → Option Holding
 holding_with live known None = live
 holding_with live known (Some h) = holding_joined live known (Some h) true
 
--- a cell was taken in
+-- a cell was joined
 pub record IsTakenIn (known : Dot → Bool) (old : LiveState) (cell : LiveDot) (new : LiveState) : Type 0 where
   pub live : (q : Dot) → map.get new.live q ≡ (if eq_by_cmp dot_cmp q cell.dot then holding_with (map.get old.live q) (known q) (Some (holding cell)) else map.get old.live q)
   pub ids : HaveGrown old new
   pub few : map.len new.live ≤ map.len old.live + 1
   pub room : old.room ≤ new.room
 
--- all that is live there was taken in
+-- all cells of the other side were joined
 pub record IsJoinedWith (known : Dot → Bool) (old : LiveState) (there : map.FinMap dot_cmp Holding) (new : LiveState) : Type 0 where
   pub live : (q : Dot) → map.get new.live q ≡ holding_with (map.get old.live q) (known q) (map.get there q)
   pub ids : HaveGrown old new
 
--- of what is live there the known dots were taken in, and those that aren't known are left; what is live here is known, and there
--- is room for what is left
+-- the other side's cells of known dots were joined, and those of unknown dots are left; each live dot here is known, and there is
+-- room for what is left
 pub record AreNewLeft (known : Dot → Bool) (old : LiveState) (there : map.FinMap dot_cmp Holding) (new : LiveState) (rest : map.FinMap dot_cmp Holding) : Type 0 where
   pub live : (q : Dot) → map.get new.live q ≡ (if known q then holding_with (map.get old.live q) true (map.get there q) else None)
   pub left : (q : Dot) → map.get rest q ≡ (if known q then None else map.get there q)
   pub ids : HaveGrown old new
   pub room : map.len new.live + map.len rest ≤ new.room
 
--- what is live there is live here, with the same member and fields
+-- each dot that is live there is live here, with the same member and fields
 abbrev pub HasAll : map.FinMap dot_cmp Holding → map.FinMap dot_cmp Holding → Type 0
 HasAll live there = (dot : Dot) (h : Holding) → map.get there dot ≡ Some h → map.get live dot ≡ Some h

@@ -10,7 +10,7 @@ use Rattle.member_orset.specs.Members.{Members}
 unfoldable pub live_dots_without : Members → set.FinSet dot_cmp → set.FinSet dot_cmp
 live_dots_without s others = set.difference (set.from_list (map.keys s.live)) others
 
--- of known dots and live ones those of a site that are known and not live
+-- the dots of a site that are known and not live, from the known dots and the live ones
 unfoldable pub dead_dots : set.FinSet dot_cmp → (Dot → Bool) → ℕ → set.FinSet dot_cmp
 dead_dots known live site = set.retain known (λ dot. nat_eq dot.site site && not (live dot))
 

@@ -1,5 +1,5 @@
--- What contracts see of a set of members: the dots that it knows, the live ones with member and fields, and, beside what
--- it means, its ids and how much room it has.
+-- What contracts see of a set of members: the dots that it knows, the live ones with member and fields, and, without meaning for
+-- the members, its ids and its room.
 use Rattle.std.specs.Prelude.{ℕ, ◌≡◌, ◌≢◌, ◌≤◌, ◌+◌, ◌⊎◌, Bool, true, false, not, Option, Some, None, Result, Ok, Err, refl, if◌then◌else◌}
 use Rattle.std.specs.FinMap as map
 use Rattle.std.specs.FinSet as set
@@ -20,9 +20,9 @@ use Rattle.live_cells.specs.declared.places.TheConstants.{LAST_GENERATION}
 use Rattle.live_cells.specs.CellIds.{AreIdsApart, IdMap, IdSet, IdsFollow, retired_of}
 pub use Rattle.live_cells.specs.Holdings.{Holding, IsPresentIn, view_of}
 
--- A set of members. A known dot that isn't live is dead; of the others nothing is known. The rest says nothing of members:
--- the ids of the live dots, those of dots that are live no more, how many places of dead dots aren't used again, and for
--- how many live dots and runs there is room.
+-- A set of members. A known dot that isn't live is dead; of an unknown dot the set says nothing. The other fields say nothing of
+-- members: the ids of the live dots, the spent ids, the number of retired places, and for how many live dots and runs there is
+-- room.
 pub record Members : Type 0 where
   pub known : set.FinSet dot_cmp
   pub live : map.FinMap dot_cmp Holding
@@ -32,7 +32,7 @@ pub record Members : Type 0 where
   pub cell_room : ℕ
   pub run_room : ℕ
 
--- it is stored as the tuple of these
+-- a set is stored as the tuple of its fields
 abbrev pub members_code : Coded Members
 members_code =
     code_by (set.FinSet dot_cmp × (map.FinMap dot_cmp Holding × (IdMap × (IdSet × (ℕ × (ℕ × ℕ))))))
@@ -40,7 +40,7 @@ members_code =
     (λ s. (s.known, (s.live, (s.ids, (s.spent, (s.retired, (s.cell_room, s.run_room)))))))
     (λ p. record { known = p.0; live = p.1.0; ids = p.1.1.0; spent = p.1.1.1.0; retired = p.1.1.1.1.0; cell_room = p.1.1.1.1.1.0; run_room = p.1.1.1.1.1.1 }) (λ _. refl)
 
--- what is said of a dot by what is live and by whether it is known
+-- the condition of a dot, by what is live and by whether it is known
 abbrev pub condition_at : Option Holding → Bool → Option Condition
 condition_at (Some h) known = Some (Live h.0 h.1)
 condition_at None true = Some Dead
@@ -50,12 +50,12 @@ condition_at None false = None
 abbrev pub condition_of : Members → Dot → Option Condition
 condition_of s dot = condition_at (map.get s.live dot) (set.contains s.known dot)
 
--- the same dots are known to both, and the same are live with the same members and fields
+-- two sets say the same: they know the same dots, and the same are live with the same members and fields
 pub record SaysTheSame (s t : Members) : Type 0 where
   pub known : t.known ≡ s.known
   pub live : t.live ≡ s.live
 
--- a set says the same as before, and each id is as before; of its rooms nothing is said
+-- a set says the same as before, and each id is as before; its room may differ
 pub record IsUnchanged (old new : Members) : Type 0 where
   pub known : new.known ≡ old.known
   pub live : new.live ≡ old.live
@@ -76,7 +76,7 @@ pub record IsLiveIn (s : Members) (dot : Dot) (h : Holding) : Type 0 where
   pub known : set.contains s.known dot ≡ true
   pub set : HasField h.1
 
--- what a set keeps: few enough dots are live, each known and with a field
+-- the invariant of a set: few enough dots are live, each known and with a field
 pub record AreKept (known : set.FinSet dot_cmp) (live : map.FinMap dot_cmp Holding) : Type 0 where
   pub few : map.len live ≤ MOST_LIVE
   pub heard : (dot : Dot) (h : Holding) → map.get live dot ≡ Some h → set.contains known dot ≡ true
@@ -90,7 +90,7 @@ dead_among known live = set.retain known (λ dot. not (live dot))
 abbrev pub AreOfTheDead : set.FinSet dot_cmp → (Dot → Bool) → IdSet → Type 0
 AreOfTheDead known live spent = set.len spent ≤ set.len (dead_among known live)
 
--- what a set keeps, with its spent ids: they are at most as many as the dead dots
+-- the invariant of a set, with its spent ids: they are at most as many as the dead dots
 pub record IsSet (known : set.FinSet dot_cmp) (live : map.FinMap dot_cmp Holding) (spent : IdSet) : Type 0 where
   pub kept : AreKept known live
   pub dead : AreOfTheDead known (map.contains_key live) spent
@@ -101,12 +101,12 @@ pub record HasId (s : Members) (id : Id) (h : Holding) : Type 0 where
   pub named : map.get s.ids dot ≡ Some id
   pub live : map.get s.live dot ≡ Some h
 
--- the greatest number of places that aren't used again: each had 2 ^ 32 dots, and there are 2 ^ 46 dots
+-- the greatest number of retired places: each had 2 ^ 32 dots, and there are 2 ^ 46 dots
 abbrev pub most_retired : ℕ
 most_retired = 16384
 
--- what holds of every set: few enough live dots, runs, and places that aren't used again, which are those of the spent ids of
--- the last generation; each dot is within the limits; and each live dot is known, has a field, and alone has an id, which isn't spent
+-- the invariant of every set: few enough live dots, runs, and retired places, which are those of the spent ids of the last
+-- generation; each dot is within the limits; and each live dot is known, has a field, and alone has an id, which isn't spent
 pub record IsWithinLimits (s : Members) : Type 0 where
   pub cells : map.len s.live ≤ MOST_LIVE
   pub rested : s.retired ≤ most_retired
@@ -117,16 +117,16 @@ pub record IsWithinLimits (s : Members) : Type 0 where
   pub apart : AreIdsApart s.ids s.spent
   pub worn : s.retired ≡ retired_of LAST_GENERATION s.spent
 
--- what is read of a set
+-- what readers of a set see: the live dots with member and fields
 abbrev pub dot_view_of : Members → DotView
 dot_view_of s = view_of s.live
 
--- the conditions that are left where one dot is joined with one more condition
+-- the conditions after a dot is joined with one more condition
 abbrev pub joined_at : Members → Dot → Condition → Dot → Option Condition
 joined_at s dot condition q =
     if eq_by_cmp dot_cmp q dot then condition_joined (condition_of s q) (Some condition) else condition_of s q
 
--- both are live, with two members or with fields in conflict
+-- two conditions are in conflict: both are live, with two members or with fields in conflict
 abbrev pub ConditionsInConflict : Option Condition → Option Condition → Type 0
 ConditionsInConflict (Some (Live m f)) (Some (Live n g)) = (m ≢ n) ⊎ FieldsInConflict f g
 ConditionsInConflict (Some (Live m f)) (Some Dead) = ⊥
@@ -134,11 +134,11 @@ ConditionsInConflict (Some (Live m f)) None = ⊥
 ConditionsInConflict (Some Dead) y = ⊥
 ConditionsInConflict None y = ⊥
 
--- how many live dots there are of so many with one more, which may be known already
+-- the number of live dots after one more, which may be known already
 abbrev pub live_with : ℕ → Bool → ℕ
 live_with live known = if known then live else live + 1
 
--- how many live dots there are once a dot is live that may be known already
+-- the number of live dots once a dot is live that may be known already
 abbrev pub cells_with : Members → Dot → ℕ
 cells_with s dot = live_with (map.len s.live) (set.contains s.known dot)
 
@@ -151,11 +151,11 @@ pub record SetsInConflict (s t : Members) : Type 0 where
 abbrev pub IsPresent : Members → Member → Type 0
 IsPresent s member = IsPresentIn s.live member
 
--- both can be joined: each dot's conditions agree
+-- two sets agree: each dot's conditions agree
 abbrev pub SetsAgree : Members → Members → Type 0
 SetsAgree s t = (dot : Dot) → ConditionsAgree (condition_of s dot) (condition_of t dot)
 
--- the condition of a dot that two sets leave together
+-- the condition of a dot in the join of two sets
 abbrev pub both_joined : Members → Members → Dot → Option Condition
 both_joined s t dot = condition_joined (condition_of s dot) (condition_of t dot)
 
@@ -169,16 +169,16 @@ is_live (Some (Live member fields)) = true
 unfoldable pub joined_dots : Members → Members → set.FinSet dot_cmp
 joined_dots s t = set.retain (set.union s.known t.known) (λ dot. is_live (both_joined s t dot))
 
--- how many these are
+-- the number of live dots in the join of two sets
 abbrev pub cells_joined : Members → Members → ℕ
 cells_joined s t = set.len (joined_dots s t)
 
--- how many runs of known dots the join has
+-- the number of runs of known dots in the join of two sets
 abbrev pub runs_joined : Members → Members → ℕ
 runs_joined s t = run_count (set.union s.known t.known)
 
--- nothing is left that could refuse the join with another set: they agree, the join is small enough, and there is room
--- for the live dots and the runs of both
+-- the join with another set can't fail: the two agree, the join is small enough, and there is room for the live dots and the runs
+-- of both
 pub record IsPrepared (s t : Members) : Type 0 where
   pub agree : SetsAgree s t
   pub cells : cells_joined s t ≤ MOST_LIVE
@@ -191,7 +191,7 @@ pub record IsJoinOf (s t joined : Members) : Type 0 where
   pub known : joined.known ≡ set.union s.known t.known
   pub conditions : (dot : Dot) → condition_of joined dot ≡ both_joined s t dot
 
--- a set that came back was refused for this cause
+-- a join was refused for this cause, and returned the other set
 abbrev pub IsRefusedFor : Result (Unit {0}) (JoinFault × Members) → JoinFault → Type 0
 IsRefusedFor (Ok u) fault = ⊥
 IsRefusedFor (Err refused) fault = refused.0 ≡ fault

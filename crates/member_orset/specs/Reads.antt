@@ -1,4 +1,4 @@
--- What callers read of a set: cells that are lent, and the dots that it has seen below given ones.
+-- What callers read of a set: cells that are borrowed, and the dots seen below given ones.
 use Rattle.std.specs.Prelude.{Bool, not, ◌&&◌, List}
 use Rattle.std.specs.FinMap as map
 use Rattle.std.specs.FinSet as set
@@ -14,6 +14,7 @@ seen_dots known live given =
     set.union (set.from_list given)
     (set.retain known (λ dot. not (live dot) && is_older given dot))
 
--- what a set has seen below given dots: these, with all dots that are dead in the set and older
+-- the dots that a set has seen below given ones: these, with all dots that are dead in the set and
+-- older
 abbrev pub dots_seen_below : Members → List Dot → set.FinSet dot_cmp
 dots_seen_below s given = seen_dots s.known (map.contains_key s.live) given

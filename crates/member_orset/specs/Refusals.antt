@@ -1,5 +1,5 @@
--- For which causes a set refuses a change. Each record takes what it means that a call was refused for a cause, and says
--- exactly when it was; where several causes stand, the first in the order of `JoinFault` is told.
+-- When a set refuses a change. Each record takes what it means that a call was refused for a cause, and says exactly
+-- when it was; where several causes apply, the result is the first in the order of `JoinFault`.
 use Rattle.std.specs.Prelude.{◌<◌, ◌≤◌, ◌↔◌, Option, Some}
 use Rattle.std.specs.FinSet as set
 use Rattle.dots.specs.declared.limits.TheConstants.{MOST_LIVE, MOST_RUNS}
@@ -12,7 +12,7 @@ use Rattle.member_orset.specs.declared.join_fault.JoinFault.TheVariants.{Conflic
 use Rattle.member_orset.specs.Members.{Members, SetsAgree, SetsInConflict, ConditionsInConflict}
 use Rattle.member_orset.specs.Members.{cells_joined, cells_with, condition_of, runs_joined}
 
--- the kill of a dot is refused for too many runs, and else for want of memory alone
+-- the kill of a dot is refused for too many runs, and otherwise only when out of memory
 pub record IsRefusedKill (s : Members) (dot : Dot) (IsRefused : JoinFault → Type 0) : Type 0 where
   pub agrees : IsRefused Conflict → ⊥
   pub has_place : IsRefused CellsFull → ⊥

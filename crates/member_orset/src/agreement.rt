@@ -1,4 +1,4 @@
-//! Whether what is live in two sets can be joined.
+//! Whether the live dots of two sets can be joined.
 ghost use Rattle.std.specs.Prelude.{◌≡◌, ◌↔◌, IsTrue, IsFalse};
 ghost use Rattle.std.specs.Option.{option_map};
 ghost use Rattle.std.specs.FinMap as map;
@@ -16,7 +16,7 @@ pub(crate) fn is_same_member(member: &Member, other: &Member) -> bool
     *member == *other
 }
 
-// Whether a dot can be live with a member and fields, beside what is held of it, if anything is.
+// Whether a dot can be joined with this member and these fields, if it is live.
 pub(crate) fn can_hold(held: Option<Cell<'_>>, member: &Member, fields: &Fields) -> bool
     ensures agree { IsTrue result
         ↔ HoldingsAgree (option_map cell_read held.entry) (member.now, fields.now) }
@@ -29,7 +29,7 @@ pub(crate) fn can_hold(held: Option<Cell<'_>>, member: &Member, fields: &Fields)
     }
 }
 
-// Whether all that is live here can be joined with all that is live there.
+// Whether each dot that is live on both sides can be joined.
 pub(crate) fn cells_agree(
     cells: &LiveCells<LAST_GENERATION>,
     others: &LiveCells<LAST_GENERATION>,

@@ -1,4 +1,4 @@
-//! What is done with one dot that is asserted.
+//! Changes of one dot that is asserted.
 ghost use Rattle.std.specs.Prelude.{◌≡◌, ◌≢◌, ◌≤◌, ◌<◌, ◌↔◌, IsFalse, IsOk, IsTrue};
 ghost use Rattle.std.specs.Prelude.{OnErr, OnOk, Err, None, true};
 ghost use Rattle.std.specs.FinMap as map;
@@ -12,7 +12,7 @@ use causal_context::{Context, ContextFault};
 use dots::{Dot, MOST_LIVE, MOST_RUNS};
 use live_cells::{LAST_GENERATION, LiveCells, LiveDot};
 
-// Adds a dot to those that are known.
+// Adds a dot to the known dots.
 pub(crate) fn learn(context: &mut Context, dot: Dot) -> Result<(), JoinFault>
     ensures ok { OnOk result (context.new.dots ≡ set.insert context.old.dots dot) }
     ensures full { (result ≡ Err JoinFault.RunsFull)
@@ -31,7 +31,7 @@ pub(crate) fn learn(context: &mut Context, dot: Dot) -> Result<(), JoinFault>
     }
 }
 
-// Why one more dot can't be known and live, where there is no memory for its cell.
+// The fault of a dot that can't be known and live, if there is no memory for its cell.
 fn fault_without_room(context: &Context, dot: Dot) -> JoinFault
     ensures full { (result ≡ JoinFault.RunsFull)
         ↔ (MOST_RUNS < run_count (set.insert context.now.dots dot)) }
@@ -44,7 +44,7 @@ fn fault_without_room(context: &Context, dot: Dot) -> JoinFault
     JoinFault::Memory
 }
 
-// Whether there are few enough live dots once a dot is live that may be known already.
+// Whether the number of live dots is within its limit once a dot is live that may be known already.
 pub(crate) fn has_place(context: &Context, cells: &LiveCells<LAST_GENERATION>, dot: Dot) -> bool
     ensures there { IsTrue result
         ↔ (live_with (map.len cells.now.live) (set.contains context.now.dots dot) ≤ MOST_LIVE) }
@@ -55,7 +55,7 @@ pub(crate) fn has_place(context: &Context, cells: &LiveCells<LAST_GENERATION>, d
     live < MOST_LIVE || live == MOST_LIVE && context.contains(dot)
 }
 
-// Lets an unknown dot be known and live.
+// Makes an unknown dot known and live.
 pub(crate) fn bring(
     context: &mut Context,
     cells: &mut LiveCells<LAST_GENERATION>,

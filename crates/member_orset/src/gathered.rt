@@ -8,8 +8,8 @@ use causal_context::{Context, ContextFault, Run};
 use dots::MOST_RUNS;
 use std::alloc::Global;
 
-// Dots that are gathered run by run in their order, and how many runs they make. Where the context can't take more,
-// the runs are counted all the same.
+// Dots that are gathered run by run in order, and their number of runs. The runs are counted even if the context
+// can't take more.
 #[derive(Drop)]
 pub(crate) struct Gathered {
     pub(crate) context: Context,
@@ -18,7 +18,7 @@ pub(crate) struct Gathered {
 }
 
 impl Gathered {
-    // No dots. It takes no memory.
+    // No dots. Takes no memory.
     pub(crate) fn none(alloc: Global) -> Gathered
         ensures none { IsGathered result set.empty }
         ensures runs { result.runs ≡ 0 }
@@ -30,7 +30,7 @@ impl Gathered {
         }
     }
 
-    // Adds the dots of a run, which begin one here or go on with one.
+    // Adds the dots of a run, which begin a run here or continue the last one.
     pub(crate) fn add(&mut self, run: Run, begins: bool)
         requires { self.old.runs < 2 ^ 60 }
         ensures gathered { (dots : set.FinSet dot_cmp)

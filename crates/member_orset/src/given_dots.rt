@@ -1,4 +1,4 @@
-//! Given dots, lent: those of a site, and the next one. Where they rise, these are found by halving.
+//! Given dots, borrowed: those of a site, and the next one. If they are in order, both are found by bisection.
 ghost use Rattle.std.specs.Prelude.{ℕ, ◌≡◌, ◌≤◌, true};
 ghost use Rattle.std.specs.List.Sorted.{IsSorted};
 ghost use Rattle.dots.specs.Orders.{dot_cmp};
@@ -7,7 +7,7 @@ ghost use Rattle.member_orset.specs.Gathering.{AreNext, AreOfSite, IsGreatest, I
 use crate::piece::Piece;
 use dots::{Dot, MOST_COUNT, SiteId};
 
-// Given dots, and whether they are several that rise. One alone isn't searched for.
+// Given dots, and whether they are several in order. A single one isn't searched for.
 #[derive(Clone, Copy)]
 pub(crate) struct GivenDots<'a> {
     pub(crate) list: &'a [Dot],
@@ -16,7 +16,7 @@ pub(crate) struct GivenDots<'a> {
 }
 
 impl<'a> GivenDots<'a> {
-    // Dots in any order. Whether they rise is tested once, here.
+    // Dots in any order. Whether they are sorted is tested once, here.
     pub(crate) fn of(list: &'a [Dot]) -> GivenDots<'a>
         ensures { result.list.now ≡ list.now }
     {
@@ -26,7 +26,7 @@ impl<'a> GivenDots<'a> {
         }
     }
 
-    // All of a site, maybe with others: where they don't rise, all that are given.
+    // All dots of a site, perhaps with others: if they aren't sorted, all given dots.
     fn of_site(self, site: SiteId) -> &'a [Dot]
         ensures { AreOfSite self.entry.list.now site result.now }
     {
@@ -38,7 +38,7 @@ impl<'a> GivenDots<'a> {
         &self.list[start..end]
     }
 
-    // The greatest count of those of a site: 0 where none is of it.
+    // The greatest count of the dots of a site: 0 if none is of it.
     pub(crate) fn greatest(self, site: SiteId) -> u64
         ensures greatest { IsGreatest self.entry.list.now site result }
         ensures limit { result ≤ MOST_COUNT }
@@ -55,7 +55,7 @@ impl<'a> GivenDots<'a> {
         greatest
     }
 
-    // Where they rise, at most one: the first from `from` on, of whichever site. Else all that are given.
+    // If they are sorted, at most one dot: the first from `from` on, of any site. Otherwise all given dots.
     fn next(self, from: Dot) -> &'a [Dot]
         ensures { AreNext self.entry.list.now from result.now }
     {
@@ -67,8 +67,8 @@ impl<'a> GivenDots<'a> {
         &self.list[place..end]
     }
 
-    // Whether `from` is given; and a count, at most that of `last`, up to which each dot of its site from it on is as
-    // it is. Where it is given, that is its own count; else it is the last such count.
+    // Whether `from` is given; and a count, at most that of `last`, up to which every dot of its site from `from` on
+    // is given or not, as `from` is. If `from` is given, that is its own count; otherwise it is the last such count.
     pub(crate) fn piece(self, from: Dot, last: Dot) -> Piece
         requires { from.count ≤ last.count }
         ensures { IsPiece

@@ -1,6 +1,6 @@
 use thiserror::Error;
 
-/// Why a set can't take what it is joined with. Where several causes stand, the first in this order is told.
+/// Why a set refuses a join. Where several causes apply, the first in this order is returned.
 #[derive(Clone, Copy, Debug, PartialEq, Eq, Error)]
 pub enum JoinFault {
     /// A dot is live on both sides with two members, or with a field of one stamp and two values.

@@ -1,4 +1,5 @@
-//! The join of what is live in two sets: what is live here and dead there goes, and what is live there comes.
+//! The join of the live dots of two sets: a dot that is live here and dead there is removed, and a dot that is live there is
+//! added.
 ghost use Rattle.std.specs.Prelude.{◌≡◌, ◌≢◌, ◌↔◌, ◌+◌, ◌<◌, ◌≤◌, Err, IsOk, IsSome, OnOk, length, not};
 ghost use Rattle.std.specs.Prelude.{true, false};
 ghost use Rattle.std.specs.List.{All, count_by};
@@ -17,8 +18,8 @@ use causal_context::{Context, ContextFault, Run};
 use dots::{Dot, MOST_RUNS};
 use live_cells::{Cursor, LAST_GENERATION, LiveCells, LiveDot, Placed, PlacedDots};
 
-// Up to so many dots come, or die, one by one, since to search a place for each and to move what stands before it or behind
-// it takes less then than to walk all.
+// Up to this number of dots are added, or removed, one by one: to search a place for each and to move its neighbours then takes
+// less than to walk all.
 const FEW: usize = 8;
 
 // How many live dots aren't known.
@@ -50,7 +51,7 @@ fn count_missing(dots: &[Placed], there: &mut Cursor<'_>) -> usize
     count
 }
 
-// How many live dots are still live once those are dead that are known there and not live.
+// The number of live dots that stay live if those are dead that are known there and not live.
 pub(crate) fn count_kept(
     dots: PlacedDots<'_>,
     known_there: &Context,
@@ -96,7 +97,7 @@ fn next_dead(
     None
 }
 
-// Lets the dots of a run be live no more that are live here and not there.
+// Removes the live dots of a run that aren't live there.
 fn drop_dead_in(
     cells: &mut LiveCells<LAST_GENERATION>,
     run: Run,
@@ -112,7 +113,7 @@ fn drop_dead_in(
     }
 }
 
-// Lets the dots of a context be live no more that are live here and not there, one by one.
+// Removes the live dots of a context that aren't live there, one by one.
 fn drop_each(
     cells: &mut LiveCells<LAST_GENERATION>,
     context: &Context,
@@ -126,8 +127,8 @@ fn drop_each(
     }
 }
 
-// Lets the dots of a context be live no more that are live here and not there. Where more than a few that are live here are of
-// its runs, all that are live here are walked once; else each that dies is searched for, and ids are moved for it.
+// Removes the live dots of a context that aren't live there. If more than a few live dots are of its runs, all live dots are
+// walked once; otherwise each removed dot is searched for, and ids are moved for it.
 pub(crate) fn drop_dead(
     cells: &mut LiveCells<LAST_GENERATION>,
     context: &Context,
@@ -144,7 +145,7 @@ pub(crate) fn drop_dead(
     }
 }
 
-// Takes in a cell of the other side: its dot is joined where it is live here too, and stays dead where it is known here.
+// Joins a cell of the other side: its dot is joined if it is live here too, and stays dead if it is known here.
 fn take_in(known: &Context, cells: &mut LiveCells<LAST_GENERATION>, cell: LiveDot)
     requires agree { HoldingsAgree (map.get cells.old.live cell.dot) (holding cell) }
     requires room { map.len cells.old.live + 1 ≤ cells.old.room }
@@ -160,7 +161,7 @@ fn take_in(known: &Context, cells: &mut LiveCells<LAST_GENERATION>, cell: LiveDo
     }
 }
 
-// Takes in all cells of the other side one by one, in room that is there. It takes no memory.
+// Joins all cells of the other side one by one, in room that is there. Takes no memory.
 fn take_each(
     known: &Context,
     cells: &mut LiveCells<LAST_GENERATION>,
@@ -200,8 +201,8 @@ fn are_known(known: &Context, dots: &[Placed]) -> bool
     true
 }
 
-// Joins the fields of each dot that is live on both sides. Those of the other side are gone through once, in their order; each
-// is looked for here first right behind the last one.
+// Joins the fields of each dot that is live on both sides. Walks the dots of the other side once, in order; each is first looked
+// for here right after the last one.
 fn join_live(cells: &mut LiveCells<LAST_GENERATION>, others: &LiveCells<LAST_GENERATION>)
     requires agree { EntriesAgree cells.old.live (map.entries others.now.live) }
     requires room { map.len cells.old.live + map.len others.now.live ≤ cells.old.room }
@@ -215,7 +216,7 @@ fn join_live(cells: &mut LiveCells<LAST_GENERATION>, others: &LiveCells<LAST_GEN
     }
 }
 
-// Takes in those cells of the other side whose dots are known, so that those are left there whose dots aren't.
+// Joins the cells of the other side whose dots are known, so that only those with unknown dots are left there.
 fn take_known(
     known: &Context,
     cells: &mut LiveCells<LAST_GENERATION>,
@@ -240,9 +241,9 @@ fn take_known(
     }
 }
 
-// Takes in all cells of the other side, in room that is there. It moves the new ones, and takes no memory. Where all are more than
-// a few, the known ones are joined in their order, and the lists of ids are merged once for the new ones; else each is searched
-// for, and ids are moved for each new one.
+// Joins all cells of the other side, in room that is there. Moves the new ones, and takes no memory. If there are more than a few,
+// the known ones are joined in order, and the lists of ids are merged once for the new ones; otherwise each is searched for, and
+// ids are moved for each new one.
 pub(crate) fn take_all(
     known: &Context,
     cells: &mut LiveCells<LAST_GENERATION>,

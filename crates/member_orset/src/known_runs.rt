@@ -1,4 +1,4 @@
-//! Runs of a context, lent.
+//! Runs of a context, borrowed.
 ghost use Rattle.std.specs.Prelude.{◌≡◌, ◌≤◌, length, true, false};
 ghost use Rattle.std.specs.List.{All, AllWithin};
 ghost use Rattle.dots.specs.DotSets.{AreApart, IsRunsOf};
@@ -24,7 +24,7 @@ pub(crate) fn ends_before(run: Run, dot: Dot) -> bool
 }
 
 impl<'a> KnownRuns<'a> {
-    // Those of a context.
+    // The runs of a context.
     pub(crate) fn of(context: &'a Context) -> KnownRuns<'a>
         ensures value { IsRunsOf result.list.now context.now.dots }
         ensures limits { All IsRunWithinLimits result.list.now }
@@ -34,7 +34,7 @@ impl<'a> KnownRuns<'a> {
         }
     }
 
-    // How many of them end before a dot.
+    // The number of runs that end before a dot.
     pub(crate) fn before(self, dot: Dot) -> usize
         ensures within { result ≤ length self.entry.list.now }
         ensures before { AllWithin (λ r. is_below dot r ≡ true) self.entry.list.now 0 result }

@@ -1,4 +1,4 @@
-//! What the definitions of member sets promise. The function has no body: its contract is the law.
+//! A law of member sets. The function has no body: its contract is the law.
 ghost use Rattle.member_orset.specs.Members.{SetsAgree, SetsInConflict, Members};
 
 /// Sets that agree are not in conflict (this project's own).

@@ -1,5 +1,5 @@
 //! The optimized observed-remove set of queue members (RR-8083): the live dots, each with its member and a register
-//! for each field, and a causal context of all dots ever heard of. Nothing is kept of a dead dot but that it is known.
+//! for each field, and a causal context of all known dots. Of a dead dot the set keeps only that it is known.
 #![tactic(auto)]
 
 mod agreement;

@@ -35,11 +35,13 @@ use op_arena::CellId;
 use std::alloc::Global;
 use std::marker::Model;
 
-/// A set of queue members that is joined with others in any order (the optimized observed-remove set of RR-8083): it
-/// knows dots, some of them live, each with its member and fields, and all others dead. Of an unknown dot nothing is
-/// said. At most 16,384 dots are live, the known ones make at most 65,536 runs, and each live dot is known and has a
-/// field that is set. While a dot is live it has an id, which no other dot of the set ever has; ids of another set mean
-/// nothing here, so what a join brings gets new ones. What only reads and has no fault takes no memory.
+/// A set of queue members whose join is commutative, associative and idempotent (the optimized observed-remove set of
+/// RR-8083). It knows dots: some of them are live, each with its member and fields, and all others are dead. An unknown dot
+/// has no condition.
+///
+/// At most 16,384 dots are live, the known ones make at most 65,536 runs, and each live dot is known and has a field that is
+/// set. A live dot has an id, which no other dot of the set ever has; ids of another set mean nothing here, so dots that a
+/// join adds get new ones. Functions that only read and can't fail take no memory.
 #[derive(Drop)]
 pub struct MemberSet {
     context: Context,
@@ -71,7 +73,7 @@ impl Model for MemberSet {
 }
 
 impl MemberSet {
-    /// The set that knows no dot. It takes no memory.
+    /// The empty set, which knows no dot. Takes no memory.
     pub fn new(alloc: Global) -> MemberSet
         ensures known { result.known ≡ set.empty }
         ensures live { result.live ≡ map.empty }
@@ -97,7 +99,7 @@ impl MemberSet {
         MemberSet { context, cells }
     }
 
-    /// The dots that it knows.
+    /// The known dots.
     pub fn context(&self) -> &Context
         ensures { result.now.dots ≡ self.now.known }
     {
@@ -137,22 +139,22 @@ impl MemberSet {
         self.cells.placed().count_outside(dead)
     }
 
-    /// The live dots in their order, each with its cell.
+    /// The live dots in order, each with its cell.
     pub fn iter(&self) -> Cells<'_>
         ensures value { result ≡ map.entries self.now.live }
     {
         self.cells.iter()
     }
 
-    /// The live dots of a member, in their order.
+    /// The live dots of a member, in order.
     pub fn dots(&self, member: &Member) -> Dots<'_>
         ensures { result ≡ dots_of (dot_view_of self.now) member.now }
     {
         self.cells.dots(member)
     }
 
-    /// The row of a member, where it has a live dot: each field is that of the greatest stamp over its live dots, of equal
-    /// stamps that of the least dot, and its default where none is set (RR-7506's last-writer registers).
+    /// The row of a member with a live dot: each field is that of the greatest stamp over its live dots, for equal stamps
+    /// that of the least dot, and its default if none is set (RR-7506's last-writer registers).
     pub fn row(&self, member: &Member) -> Option<Row<'_>>
         ensures { option_map row_view result ≡ row_of (dot_view_of self.now) member.now }
     {
@@ -167,14 +169,15 @@ impl MemberSet {
         self.cells.rows(queue)
     }
 
-    /// The id of a dot, where it is live. It keeps it while it is live, and then no dot has it again.
+    /// The id of a live dot. The dot keeps it while it is live, and no dot gets it again.
     pub fn id(&self, dot: Dot) -> Option<CellId>
         ensures { result ≡ map.get self.now.ids dot }
     {
         self.cells.id(dot)
     }
 
-    /// The member and the fields of the live dot that has an id, where one has it. A spent id answers `None` for good.
+    /// The member and the fields of the live dot with this id; `None` if no live dot has it. A spent id gives `None` from
+    /// then on.
     pub fn at(&self, id: CellId) -> Option<Cell<'_>>
         ensures some { IfSome result (λ cell. HasId self.now id (cell_read cell)) }
         ensures none { result ≡ None → (dot : Dot) → map.get self.now.ids dot ≢ Some id }
@@ -183,7 +186,7 @@ impl MemberSet {
         self.cells.at(id)
     }
 
-    /// How many places of dead dots aren't used again: at most 16,384, since each had 4,294,967,296 dots, which are dead.
+    /// The number of retired places, of dead dots: at most 16,384, since each had 4,294,967,296 dots, which are dead.
     pub fn retired(&self) -> u32
         ensures value { result ≡ self.now.retired }
         ensures limit { result ≤ most_retired }
@@ -195,9 +198,9 @@ impl MemberSet {
         self.cells.retired()
     }
 
-    /// Joins what it says of a dot with that the dot is dead: it is known then, and not live. No fault changes what it
-    /// says. 1 `RunsFull`, exactly where the known dots would make more than 65,536 runs; 2 `Memory`, which a known dot
-    /// never wants, nor an unknown one where there is room for one more run.
+    /// Makes a dot dead: it is known then, and not live. No fault changes what the set says. Errors, in order: 1 `RunsFull`,
+    /// exactly where the known dots would make more than 65,536 runs; 2 `Memory`, never for a known dot, nor for an unknown
+    /// one if there is room for one more run.
     pub fn kill(&mut self, dot: Dot) -> Result<(), JoinFault>
         ensures known { OnOk result (self.new.known ≡ set.insert self.old.known dot) }
         ensures conditions { OnOk result ((q : Dot)
@@ -215,12 +218,12 @@ impl MemberSet {
         Ok(())
     }
 
-    /// Joins what it says of a dot with that the dot is live, with this member and these fields, of which one is set: an
-    /// unknown dot is live then, a live one has its fields joined with these, and a dead one stays dead. No fault changes
-    /// what it says. 1 `Conflict`, exactly where the dot is live with another member, or with another value under the
-    /// stamp of one of these fields; 2 `CellsFull`, exactly where there would be more than 16,384 live dots; 3 `RunsFull`,
-    /// exactly where the known dots would make more than 65,536 runs; 4 `Memory`, which a known dot never wants, nor an
-    /// unknown one where there is room for one more live dot and one more run.
+    /// Asserts a dot with this member and these fields, of which one is set: an unknown dot is live then, a live one has its
+    /// fields joined with these, and a dead one stays dead. No fault changes what the set says. Errors, in order: 1
+    /// `Conflict`, exactly where the dot is live with another member, or with another value under the stamp of one of these
+    /// fields; 2 `CellsFull`, exactly where there would be more than 16,384 live dots; 3 `RunsFull`, exactly where the known
+    /// dots would make more than 65,536 runs; 4 `Memory`, never for a known dot, nor for an unknown one if there is room for
+    /// one more live dot and one more run.
     pub fn assert(&mut self, dot: Dot, member: &Member, fields: &Fields) -> Result<(), JoinFault>
         requires { HasField fields.now }
         ensures known { OnOk result (self.new.known ≡ set.insert self.old.known dot) }
@@ -271,10 +274,9 @@ impl MemberSet {
         is_same_context(&self.context, &other.context) && are_same_cells(&self.cells, &other.cells)
     }
 
-    /// Makes room for what another set says, which `absorb` then joins. It leaves what is said as it is. 1 `Conflict`,
-    /// exactly where `agrees` is false; 2 `CellsFull`, exactly where the join has more than 16,384 live dots; 3 `RunsFull`,
-    /// exactly where the known dots of both make more than 65,536 runs; 4 `Memory`, which doesn't come where `prepared`
-    /// is true.
+    /// Makes room for another set, which `absorb` then joins. The set says the same as before. Errors, in order: 1
+    /// `Conflict`, exactly where `agrees` is false; 2 `CellsFull`, exactly where the join has more than 16,384 live dots; 3
+    /// `RunsFull`, exactly where the known dots of both make more than 65,536 runs; 4 `Memory`, never if `prepared` is true.
     pub fn prepare(&mut self, other: &MemberSet) -> Result<(), JoinFault>
         ensures ready { OnOk result (IsPrepared self.new other.now) }
         ensures refusals { IsRefusedJoin self.old other.now (λ fault. result ≡ Err fault) }
@@ -313,8 +315,8 @@ impl MemberSet {
         self.cells.len() + other.cells.len() <= self.cells.room()
     }
 
-    /// Joins what another set says, where `prepared` is true of it: each dot has the join of its two conditions. It
-    /// takes no memory and can't fail.
+    /// Joins another set for which `prepared` is true: each dot has the join of its two conditions. Takes no memory and
+    /// can't fail.
     pub fn absorb(&mut self, other: MemberSet)
         requires { IsPrepared self.old other }
         ensures joined { IsJoinOf self.old other self.new }
@@ -328,10 +330,10 @@ impl MemberSet {
         let _ = self.cells.len(); // so that it is known what holds of them
     }
 
-    /// Joins what another set says: each dot has the join of its two conditions. A refused set comes back as it was, and
-    /// no fault changes what this one says. 1 `Conflict`, exactly where `agrees` is false; 2 `CellsFull`, exactly where
-    /// the join has more than 16,384 live dots; 3 `RunsFull`, exactly where the known dots of both make more than 65,536
-    /// runs; 4 `Memory`, which doesn't come where `prepared` is true.
+    /// Joins another set: each dot has the join of its two conditions. A fault returns the other set unchanged, and leaves
+    /// what this one says. Errors, in order: 1 `Conflict`, exactly where `agrees` is false; 2 `CellsFull`, exactly where the
+    /// join has more than 16,384 live dots; 3 `RunsFull`, exactly where the known dots of both make more than 65,536 runs; 4
+    /// `Memory`, never if `prepared` is true.
     pub fn join(&mut self, other: MemberSet) -> Result<(), (JoinFault, MemberSet)>
         ensures joined { OnOk result (IsJoinOf self.old other self.new) }
         ensures refusals { IsRefusedJoin self.old other (λ fault. IsRefusedFor result fault) }
@@ -347,9 +349,9 @@ impl MemberSet {
         Ok(())
     }
 
-    /// The given dots, with all that are dead here and older: of the site of a given dot, with a lesser count. An
-    /// operation that asserts the given dots names these older ones. The set is only read. 1 `RunsFull`, exactly where
-    /// all these dots make more than 65,536 runs; 2 `Memory`.
+    /// The given dots, with all dots that are dead here and older: of the site of a given dot, with a lesser count. An
+    /// operation that asserts the given dots names these older ones. Errors, in order: 1 `RunsFull`, exactly where all these
+    /// dots make more than 65,536 runs; 2 `Memory`.
     pub fn seen_below(&self, given: &[Dot]) -> Result<Context, ContextFault>
         ensures ok { IfOk result (λ seen. seen.dots ≡ dots_seen_below self.now given.now) }
         ensures full { (result ≡ Err ContextFault.RunsFull)
@@ -363,8 +365,8 @@ impl MemberSet {
         )
     }
 
-    /// The dead dots of a site: those that are known and not live. 1 `RunsFull`, exactly where they make more than 65,536
-    /// runs; 2 `Memory`.
+    /// The dead dots of a site: those that are known and not live. Errors, in order: 1 `RunsFull`, exactly where they make
+    /// more than 65,536 runs; 2 `Memory`.
     pub fn dead_of(&self, site: SiteId) -> Result<Context, ContextFault>
         ensures ok { IfOk result (λ dead. dead.dots ≡ dead_dots_of self.now site) }
         ensures full { (result ≡ Err ContextFault.RunsFull)
@@ -386,8 +388,7 @@ impl MemberSet {
         kept + count_unknown(&self.context, other.cells.placed().list)
     }
 
-    /// Another set that says the same of each dot, with ids of its own, and no place that isn't used again. The one fault is
-    /// want of memory.
+    /// A copy that says the same of each dot, with ids of its own, and no retired places. Fails only when out of memory.
     pub fn copy(&self) -> Result<MemberSet, Memory>
         ensures same { IfOk result (λ copy. SaysTheSame self.now copy) }
         ensures spent { IfOk result (λ copy. copy.spent ≡ set.empty) }

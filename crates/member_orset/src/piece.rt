@@ -1,4 +1,4 @@
-// Counts of a site, one after another up to a last one, of which all pass a test or none does.
+// Consecutive counts of a site up to a last one, which all pass a test or all fail it.
 #[derive(Clone, Copy)]
 pub(crate) struct Piece {
     pub(crate) inside: bool,

@@ -1,4 +1,4 @@
-//! Whether two contexts, or all that is live in two sets, are one.
+//! Whether two contexts, or the live dots of two sets, are equal.
 ghost use Rattle.std.specs.Prelude.{◌≡◌, ◌↔◌, IsTrue, Some};
 ghost use Rattle.std.specs.Option.{option_map};
 ghost use Rattle.live_cells.specs.Holdings.{cell_read};
@@ -17,7 +17,7 @@ pub(crate) fn is_same_context(context: &Context, other: &Context) -> bool
     context.covers(other) && other.covers(context)
 }
 
-// Whether this very member and these very fields are held.
+// Whether exactly this member and these fields are held.
 fn is_held_so(held: Option<Cell<'_>>, member: &Member, fields: &Fields) -> bool
     ensures { IsTrue result
         ↔ (option_map cell_read held.entry ≡ Some (member.now, fields.now)) }
@@ -28,7 +28,7 @@ fn is_held_so(held: Option<Cell<'_>>, member: &Member, fields: &Fields) -> bool
     }
 }
 
-// Whether all that is live there is live here, with the same members and fields.
+// Whether each dot that is live there is live here, with the same member and fields.
 fn has_all(cells: &LiveCells<LAST_GENERATION>, others: &LiveCells<LAST_GENERATION>) -> bool
     ensures { IsTrue result ↔ HasAll cells.now.live others.now.live }
 {

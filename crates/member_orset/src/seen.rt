@@ -1,4 +1,4 @@
-//! What was seen below given dots: these, with the dead dots that are older.
+//! The dots seen below given ones: these, with the dead dots that are older.
 ghost use Rattle.std.specs.Prelude.{◌≡◌, ◌<◌, ◌≤◌, ◌↔◌, IfOk, IsTrue};
 ghost use Rattle.std.specs.List.{All};
 ghost use Rattle.std.specs.FinMap as map;
@@ -16,7 +16,7 @@ use dots::{Dot, MOST_RUNS, SITES, SiteId};
 use live_cells::PlacedDots;
 use std::alloc::Global;
 
-// Between which numbers the sites of the given dots lie: from the first on, and before the second.
+// The range of the sites of the given dots: from the first number on, and below the second.
 fn sites_of(given: &[Dot]) -> (u16, u16)
     ensures first { All (λ d. result.0 ≤ d.site) given.now }
     ensures end { All (λ d. d.site < result.1) given.now }

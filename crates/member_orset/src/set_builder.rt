@@ -16,8 +16,8 @@ use op_arena::CellId;
 use std::alloc::Global;
 use std::marker::Model;
 
-/// A set that is being made of its known dots: they are dead, but for those that are given a cell, one by one in their
-/// order. The cells' order by members is made once, in the end.
+/// A set that is built from its known dots: they are dead, except those that get a cell, one by one in order. The order
+/// of the cells by members is made once, at the end.
 #[derive(Drop)]
 pub struct SetBuilder {
     context: Context,
@@ -50,7 +50,7 @@ impl Model for SetBuilder {
 }
 
 impl SetBuilder {
-    /// All dots of the context are dead so far. It takes no memory.
+    /// A builder in which all dots of the context are dead. Takes no memory.
     pub fn new(alloc: Global, context: Context) -> SetBuilder
         ensures known { result.known ≡ context.dots }
         ensures live { result.live ≡ map.empty }
@@ -63,15 +63,15 @@ impl SetBuilder {
         }
     }
 
-    /// The dots that are known.
+    /// The known dots.
     pub fn context(&self) -> &Context
         ensures { result.now.dots ≡ self.now.known }
     {
         &self.context
     }
 
-    /// Makes a dot live, with copies of its member and fields, and answers its id. The dot is one of the context and
-    /// greater than those before, a field is set, and fewer than 16,384 dots are live so far. The one fault is want of
+    /// Adds a live dot, with copies of its member and fields, and returns its id. The dot is one of the context and
+    /// greater than those before, a field is set, and fewer than 16,384 dots are live so far. Fails only when out of
     /// memory, which changes nothing.
     pub fn cell(&mut self, dot: Dot, member: &Member, fields: &Fields) -> Result<CellId, Memory>
         requires in_context { set.contains self.old.known dot ≡ true }
@@ -91,9 +91,9 @@ impl SetBuilder {
         self.put(dot, member.copy(), fields.copy())
     }
 
-    /// Makes a dot live, with its member and fields, and answers its id. It is one of the context and greater than those
-    /// before, a field is set, and fewer than 16,384 dots are live so far. The one fault is want of memory, which changes
-    /// nothing.
+    /// Adds a live dot, with its member and fields, and returns its id. The dot is one of the context and greater than
+    /// those before, a field is set, and fewer than 16,384 dots are live so far. Fails only when out of memory, which
+    /// changes nothing.
     pub fn put(&mut self, dot: Dot, member: Member, fields: Fields) -> Result<CellId, Memory>
         requires in_context { set.contains self.old.known dot ≡ true }
         requires greater { (q : Dot) → IsSome (map.get self.old.live q) → dot_cmp q dot ≡ Less }
@@ -118,8 +118,8 @@ impl SetBuilder {
         }
     }
 
-    /// The set: the given dots are live, with the ids that were answered, and the others of the context dead. It takes no
-    /// memory, and sorts the dots by their members where they didn't come in that order.
+    /// The set: the dots that got a cell are live, with the ids that were returned, and the others of the context dead.
+    /// Takes no memory, and sorts the dots by their members if they were not added in that order.
     pub fn finish(self) -> MemberSet
         ensures same { SaysTheSame self result }
         ensures ids { result.ids ≡ self.ids }

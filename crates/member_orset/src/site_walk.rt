@@ -1,5 +1,5 @@
-//! The walk over the dots of a site: which of them are given or dead. It goes over the site's runs and its runs of live
-//! dots once.
+//! A walk over the dots of a site: which of them are given or dead. It passes the site's runs and its runs of live dots
+//! once.
 ghost use Rattle.std.specs.Prelude.{ℕ, ◌≡◌, ◌+◌, ◌-◌, ◌*◌, ◌<◌, ◌≤◌, ◌^◌, length, true, false};
 ghost use Rattle.std.specs.List.{AllWithin};
 ghost use Rattle.std.specs.Ordering.{is_lt};
@@ -19,8 +19,8 @@ use causal_context::Run;
 use dots::Dot;
 use live_cells::{PlacedDots, live_run_end};
 
-// A walk over the dots of a site up to a last one: the dot that it has come to, how many runs end before it, and how many
-// live dots lie before it.
+// A walk over the dots of a site up to a last one: the dot that it has reached, how many runs end before it, and how many
+// live dots are before it.
 #[derive(Drop)]
 struct SiteWalk<'a> {
     runs: KnownRuns<'a>,
@@ -43,7 +43,7 @@ struct SiteWalk<'a> {
 }
 
 impl<'a> SiteWalk<'a> {
-    // How many runs end before a dot that lies ahead.
+    // The number of runs that end before a dot that lies ahead.
     fn run_at(&self, dot: Dot) -> usize
         requires { IsAhead self.now.from self.now.last dot }
         ensures within { result ≤ length self.now.runs.list.now }
@@ -62,8 +62,8 @@ impl<'a> SiteWalk<'a> {
         passed
     }
 
-    // How many live dots lie before a dot that lies ahead. Mostly it is one more at most; where it is a whole run more, they
-    // are found by halving.
+    // The number of live dots before a dot that lies ahead. Mostly that is at most one more; if it is a whole run more, they
+    // are found by bisection.
     fn live_at(&self, dot: Dot) -> usize
         requires { IsAhead self.now.from self.now.last dot }
         ensures within { result ≤ length self.now.dots.list.now }
@@ -82,7 +82,7 @@ impl<'a> SiteWalk<'a> {
         dots.place(dot)
     }
 
-    // Comes to a dot that lies ahead.
+    // Moves to a dot that lies ahead.
     fn go_to(&mut self, dot: Dot)
         requires { IsAhead self.old.from self.old.last dot }
         ensures from { self.new.from ≡ dot }
@@ -97,7 +97,8 @@ impl<'a> SiteWalk<'a> {
         self.live = live;
     }
 
-    // Whether the dot is in the runs; and up to which count, `last` at most, the dots from it on are as it is.
+    // Whether the dot is in the runs; and up to which count, `last` at most, the dots from it on are in the runs or not, as
+    // it is.
     fn known_piece(&self, last: u64) -> Piece
         ensures { IsPiece
             (λ n. in_runs self.now.runs.list.now (record { site = self.now.from.site; count = n }))
@@ -129,7 +130,7 @@ impl<'a> SiteWalk<'a> {
         }
     }
 
-    // Whether the dot is live; and up to which count, `last` at most, the dots from it on are as it is.
+    // Whether the dot is live; and up to which count, `last` at most, the dots from it on are live or not, as it is.
     fn live_piece(&self, last: u64) -> Piece
         ensures { IsPiece
             (λ n. is_placed self.now.dots.list.now (record { site = self.now.from.site; count = n }))
@@ -163,7 +164,7 @@ impl<'a> SiteWalk<'a> {
         }
     }
 
-    // Whether the dot is given or dead; and up to which count the dots from it on are as it is.
+    // Whether the dot is given or dead; and up to which count the dots from it on are so or not, as it is.
     fn piece(&self) -> Piece
         ensures { (known : set.FinSet dot_cmp)
             → IsRunsOf self.now.runs.list.now known
@@ -188,8 +189,8 @@ impl<'a> SiteWalk<'a> {
     }
 }
 
-// Gathers the dots of a site that are given or dead, up to a last one. It walks the site's runs and live dots once, from
-// the first ones on, which are found by halving.
+// Gathers the dots of a site that are given or dead, up to a last one. Walks the site's runs and live dots once, from the
+// first ones on, which are found by bisection.
 pub(crate) fn gather_site(
     gathered: &mut Gathered,
     runs: KnownRuns<'_>,

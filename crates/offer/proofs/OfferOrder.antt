@@ -46,7 +46,7 @@ tied Greater Less e f g = absurd (true≢false g)
 tied Greater Equal e f g = e
 tied Greater Greater e f g = absurd (true≢false (ap is_lt (sym e)))
 
--- and no other is
+-- of offers one is the first, and no other is
 pub one_first : (offers : List Offer) → HaveOneFirst offers
 one_first offers one other a b =
     exact_offers one other (tied (offer_cmp one other) (offer_cmp other one) (offers_total.antisymm one other) (b.first one a.there) (a.first other b.there))

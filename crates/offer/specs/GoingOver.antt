@@ -1,4 +1,4 @@
--- The first offer so far, while rows are gone over.
+-- The first offer so far, while rows are visited.
 use Rattle.std.specs.Prelude.{ℕ, Bool, true, ◌&&◌, List, Option, Some, None}
 use Rattle.std.specs.List.{best_of}
 use Rattle.operations.specs.Rows.{MemberRow}

@@ -1,4 +1,4 @@
--- Which member of a queue is offered a call (this project's own).
+-- Which member of a queue is offered a call.
 use Rattle.std.specs.Prelude.{ℕ, ◌≡◌, Bool, false, not, ◌&&◌, List, [], ◌∷◌, Option, Some, None, Contains, filter, map as each, bytes_eq}
 use Rattle.std.specs.Option.{option_map}
 use Rattle.std.specs.List.{list_any, best_of}
@@ -38,8 +38,8 @@ abbrev pub first_of : List Offer → Option Offer
 first_of [] = None
 first_of (offer ∷ offers) = Some (best_of comes_before offer offers)
 
--- the first offer of the rows of the queue that has the name `queue`, beside the interfaces that
--- were tried, if there is one; nothing where there is no such queue
+-- the first offer of the rows of the queue that has the name `queue`, without the tried interfaces, if there is one; nothing if
+-- there is no such queue
 abbrev pub offered : List (List ℕ) → (ℕ → List (List ℕ × MemberRow)) → List ℕ → List (List ℕ) → Option (Option Offer)
 offered names rows queue tried = option_map (λ number. first_of (offers_of tried (rows number))) (number_of names queue)
 

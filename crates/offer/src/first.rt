@@ -10,7 +10,7 @@ use member_orset::Rows;
 use operations::Row;
 use std::cmp::Ordering;
 
-// Whether the offer of this interface with this penalty comes before `first`, the first so far.
+// Whether the offer of this interface with this penalty precedes `first`, the first so far.
 fn comes_first(interface: &Interface, penalty: u32, first: &Option<Offer>) -> bool
     ensures { result
         ≡ comes_first first.now (record { interface = interface.now; penalty = penalty }) }
@@ -25,8 +25,8 @@ fn comes_first(interface: &Interface, penalty: u32, first: &Option<Offer>) -> bo
     }
 }
 
-// Whether the member of this interface and row may be offered, and comes before `first`, the first so far. The tried interfaces
-// are gone over last.
+// Whether the member of this interface and row may be offered, and precedes `first`, the first so far. The tried interfaces are
+// checked last.
 fn is_next(interface: &Interface, row: &Row<'_>, first: &Option<Offer>, tried: &[Interface]) -> bool
     ensures { result ≡ is_next tried.now first.now (interface.now, row_view row.now) }
 {

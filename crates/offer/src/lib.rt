@@ -1,7 +1,7 @@
-//! Offers: which member of a queue is to get the next call (this project's own).
+//! Offers: the member of a queue that gets the next call (this project's own).
 //!
-//! The one of the least penalty is offered, of equal penalties the one whose interface has the least bytes. Members that are
-//! paused and those that were tried are left out. Ring in use plays no part.
+//! That is the member of the least penalty, and for equal penalties the one whose interface has the least bytes. Paused
+//! members and tried ones are left out. Ring in use has no effect.
 #![tactic(auto)]
 
 ghost use Rattle.std.specs.Prelude.{◌≡◌};
@@ -25,13 +25,13 @@ pub use offered::Offer;
 use replica::Replica;
 
 /// The member of the queue that is offered the next call: of those that aren't paused and whose interfaces aren't among the
-/// tried ones, the one of the least penalty, and of equal penalties that of the least interface, by its bytes. `None` exactly
-/// where there is no such member.
+/// tried ones, the one of the least penalty, and for equal penalties that of the least interface, by its bytes. `None`
+/// exactly if there is no such member.
 ///
-/// It takes no memory, and changes nothing. The rows are gone over once. The tried ones are gone over for each row that isn't
-/// paused and comes before the rows so far, so at most once a row; they may stand in any order, and may come twice.
+/// Takes no memory, and changes nothing. Visits each row once, and the tried ones for each row that isn't paused and precedes
+/// the rows so far; they may be in any order, and may repeat.
 ///
-/// The one fault is `NoSuchQueue`, exactly where the queue isn't in the list (this project's own).
+/// Fails only with `NoSuchQueue`, exactly where the queue isn't in the list.
 pub fn offer(
     replica: &Replica,
     queue: &QueueName,

@@ -1,6 +1,6 @@
 use dots::Interface;
 
-/// A member that is offered a call (this project's own).
+/// A member that is offered a call.
 #[derive(Debug, Drop, PartialEq, Eq)]
 pub struct Offer {
     /// The interface of the member that is offered.

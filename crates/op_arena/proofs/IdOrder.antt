@@ -7,7 +7,7 @@ use Rattle.std.proofs.lemmas.Cmp.{on_total, then_total}
 use Rattle.std.proofs.lemmas.Map.Lookups.{exact_pairs, exact_unsigned}
 use Rattle.op_arena.specs.Ids.{Id, id_cmp, id_of}
 
--- it is a total order
+-- the order of ids is total
 pub ids_total : IsTotalOrder id_cmp
 ids_total = then_total (on_total (λ (i : Id). i.index) nat_cmp_total) (on_total (λ (i : Id). i.generation) nat_cmp_total)
 

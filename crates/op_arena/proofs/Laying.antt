@@ -10,7 +10,7 @@ use Rattle.std.proofs.lemmas.List.{length-set}
 use Rattle.op_arena.specs.Columns.{Column, column}
 use Rattle.op_arena.specs.Sizes.{size, total, all_items, IsLaid, IsPlaceOf}
 
--- how many values so many chunks hold from this one on
+-- the number of values that `d` chunks from chunk `k` on hold
 abbrev pub span : ℕ → ℕ → ℕ
 span k zero = 0
 span k (suc d) = size k + span (suc k) d
@@ -52,7 +52,7 @@ next_size zero capacity s e (inr (some, is)) = absurd (some e)
 next_size (suc m) capacity s e (inl (none, is)) = let some : 1 ≤ 2 ^ m = one-le-pow m 2 (omega arith) in absurd (omega (arith, e, none, some))
 next_size (suc m) capacity s e (inr (some, is)) = (is ∙ e, omega (arith, total_next m, e, is))
 
--- past the first chunk, the highest bit of an index tells its chunk
+-- past the first chunk, the highest bit of an index gives its chunk
 pub located : (i p one : ℕ) → 1 ≤ i → i < 2 ^ 64 → p ≡ 63 - count_leading_zeros 64 i → one ≡ (1 * 2 ^ p) % 2 ^ 64 → (one ≤ i) × IsPlaceOf i (p + 1) (i - one)
 located i p one large fits is bit =
     let top = leading_top 64 i (omega arith) fits in let j = top.0 in let same : p ≡ j = omega (arith, top.1, is) in
@@ -171,7 +171,7 @@ module _ {X : Type 0} where
   found_room k n (suc d) j (b ∷ cs) c laid small end e =
       let there : k + suc d ≡ suc k + d = omega arith in found_room (suc k) (n - size k) d j cs c laid.2 (subst (λ m. j < size m) there small) (omega (arith, end)) e
 
-  -- the same at an index, from the first chunk on
+  -- the chunk of an index exists, from the first chunk on
   pub there : (i d j : ℕ) (cs : List (Column X)) → IsPlaceOf i d j → i < total (length cs) → d < length cs
   there i d j cs at lt = chunk_there 0 d j cs (omega (arith, span_total d, at.0, span_total (length cs), lt))
 

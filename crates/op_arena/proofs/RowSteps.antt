@@ -2,7 +2,7 @@
 --     Data, data_val, told, made, opened      the one field of `Places`
 --     Besides, place_out, place_back      one place is taken out of its row, and put back
 --     place_seen      a `&` to a row gives one to a place
---     of_room, to_room      memory for an array is that of so many empty places
+--     of_room, to_room      memory for an array is that of as many empty places
 use Rattle.std.proofs.Common.{◌≡◌, ℕ, zero, suc, ◌+◌, ◌*◌, ◌<◌, List, [], ◌∷◌, ◌++◌, length, get_or, replicate, refl, ap, ◌∙◌, subst, arith, Some, None}
 use native.Mathlib.Nat.{zero-mul, suc-mul}
 use lib.ListN.{set}

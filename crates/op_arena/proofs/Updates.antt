@@ -55,7 +55,7 @@ module _ {T : Type 0} where
           | inr differs ↦ ap (value_at q.generation) (other q.index differs) ∙ sym found ∙ ap (λ b. cond b None (map.get (held_in old) q)) (sym (apart q (id_of i g) differs))
         ] ∙ sym (map.get-remove ids_total (held_in old) (id_of i g) q))
 
-    -- as many generations are spent
+    -- the spent ids stay if as many generations are spent
     pub as_spent : count_at (slice_get new i) ≡ count_at (slice_get old i) → spent_in new ≡ spent_in old
     as_spent here = set.same_set ids_total ids_exact (spent_in new) (spent_in old) (λ q.
         contains_spent new q ∙ ap (nat_lt q.generation) (elim (cases_eq i q.index) [

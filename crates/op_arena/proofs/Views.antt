@@ -25,7 +25,7 @@ same_id q d = sym (tied_then (nat_cmp q.index d.index) (nat_cmp q.generation d.g
 pub apart : (q d : Id) → (d.index ≡ q.index → ⊥) → eq_by_cmp id_cmp q d ≡ false
 apart q d other = same_id q d ∙ ap (λ b. b && nat_eq d.generation q.generation) (ne_eqb d.index q.index other)
 
--- ids of one cell are told by their generations
+-- ids of one cell differ by their generations
 pub together : (q d : Id) → d.index ≡ q.index → eq_by_cmp id_cmp q d ≡ nat_eq d.generation q.generation
 together q d same = same_id q d ∙ ap (λ b. b && nat_eq d.generation q.generation) (eq-eqb d.index q.index same)
 
@@ -71,7 +71,7 @@ len_cond true id ids e =
     set.len-insert ids_total (set.from_list ids) id
     ∙ ap (λ b. cond b (set.len (set.from_list {R = id_cmp} ids)) (set.len (set.from_list {R = id_cmp} ids) + 1)) (set.contains-from_list ids_total ids id ∙ e) ∙ omega arith
 
--- so many ids of a cell, before ids of other cells
+-- `n` ids of a cell, before ids of other cells
 len_before : (i n : ℕ) (ids : List Id) → ((g : ℕ) → list_any (eq_by_cmp id_cmp (id_of i g)) ids ≡ false)
     → set.len (set.from_list {R = id_cmp} (ids_before i n ++ ids)) ≡ n + set.len (set.from_list {R = id_cmp} ids)
 len_before i zero ids none = omega arith
@@ -200,7 +200,7 @@ module _ {T : Type 0} where
     | inr other ↦ (λ i. nat_lt g (count_at o) && ne_eqb g last other i) ∙ and_false _ ∙ sym (and_false (retired_at o)) ∙ (λ i. retired_at o && sym (ne_eqb last g (λ s. other (sym s))) i)
   ]
 
-  -- so many cells are retired
+  -- the number of retired cells
   pub len_retired : (last : ℕ) (ss : List (Slot T)) → ((i : ℕ) (s : Slot T) → slice_get ss i ≡ Some s → KeepsLast last s.generation s.state)
       → set.len (set.retain (spent_in ss) (λ id. nat_eq id.generation last)) ≡ count is_retired ss
   len_retired last ss keeps =

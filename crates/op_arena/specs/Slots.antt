@@ -1,4 +1,4 @@
--- What the cells of an arena say of its values and its spent ids. Only this crate's own clauses cite this module.
+-- The values and the spent ids of an arena's cells. Only this crate's own clauses cite this module.
 use Rattle.std.specs.Prelude.{◌≡◌, ℕ, zero, suc, ◌+◌, ◌≤◌, ◌^◌, Bool, true, false, cond, nat_eq, List, [], ◌∷◌, ◌++◌, length, slice_get, is_some, Option, Some, None}
 use Rattle.std.specs.FinMap as map
 use Rattle.std.specs.FinSet as set

@@ -15,7 +15,7 @@ use crate::slot::Slot;
 use std::alloc::Global;
 use std::marker::Model;
 
-// How many cells an arena has at most.
+// The most cells of an arena.
 const LIMIT: usize = 1_048_576;
 
 /// Values, each under an id that the arena picks. A cell whose value was taken is used again in its next generation, up to generation
@@ -51,7 +51,7 @@ impl<T, const LAST: u32> Model for Arena<T, LAST> {
 impl<T, const LAST: u32> Arena<T, LAST> {
     ghost use Rattle.op_arena.specs.ArenaLends.{lends_value, lends_found};
 
-    /// An arena with no value, no spent id and no room. It takes no memory.
+    /// An arena with no value, no spent id and no room. Takes no memory.
     pub fn new(alloc: Global) -> Self
         ensures held { result.held ≡ map.empty }
         ensures spent { result.spent ≡ set.empty }
@@ -65,7 +65,7 @@ impl<T, const LAST: u32> Arena<T, LAST> {
         }
     }
 
-    /// How many values there are. It takes no memory.
+    /// How many values there are. Takes no memory.
     pub fn len(&self) -> u32
         ensures value { result ≡ cells_len self.now }
         ensures limit { result ≤ 2 ^ 20 }
@@ -73,7 +73,7 @@ impl<T, const LAST: u32> Arena<T, LAST> {
         self.held as u32
     }
 
-    /// How many more values there is room for. It takes no memory.
+    /// How many more values there is room for. Takes no memory.
     pub fn spare(&self) -> u32
         ensures value { result ≡ self.now.spare }
         ensures limit { cells_len self.now + cells_retired LAST self.now + result ≤ 2 ^ 20 }
@@ -82,7 +82,7 @@ impl<T, const LAST: u32> Arena<T, LAST> {
     }
 
     /// How many cells are retired: the number of spent ids of generation `LAST`. At least `LAST` + 1 times as many ids are spent.
-    /// It takes no memory.
+    /// Takes no memory.
     pub fn retired(&self) -> u32
         ensures value { result ≡ cells_retired LAST self.now }
         ensures limit { result ≤ 2 ^ 20 }
@@ -91,10 +91,10 @@ impl<T, const LAST: u32> Arena<T, LAST> {
         self.retired as u32
     }
 
-    /// Makes room for `n` more values. Nothing moves, and no id changes its meaning, also where it is refused.
+    /// Makes room for `n` more values. Nothing moves, and no id changes its meaning, also if it fails.
     ///
-    /// Faults: 1. `Full`, exactly where the values, the retired cells and `n` together are more than 1,048,576;
-    /// 2. `Memory`, after which there may be more room than before.
+    /// Errors, in order: 1. `Full`, exactly where the values, the retired cells and `n` together are more than 1,048,576; 2.
+    /// `Memory`, after which there may be more room than before.
     pub fn reserve(&mut self, n: u32) -> Result<(), ArenaFault>
         ensures held { self.new.held ≡ self.old.held }
         ensures spent { self.new.spent ≡ self.old.spent }
@@ -115,7 +115,7 @@ impl<T, const LAST: u32> Arena<T, LAST> {
         }
     }
 
-    /// Puts `value` into a cell and gives its id, which was never given before. Room must be left. It takes no memory.
+    /// Puts `value` into a cell and gives its id, which was never given before. Room must be left. Takes no memory.
     #[inline(always)]
     pub fn place(&mut self, value: T) -> CellId
         requires { 0 < self.old.spare }
@@ -146,7 +146,7 @@ impl<T, const LAST: u32> Arena<T, LAST> {
         }
     }
 
-    /// The value of `id`, if it is held. It takes no memory.
+    /// The value of `id`, if it is held. Takes no memory.
     pub fn get(&self, id: CellId) -> Option<&T>
         ensures value { option_copied result ≡ map.get self.now.held id }
         ensures spent { IsTrue (set.contains self.now.spent id) → result ≡ None }
@@ -179,7 +179,8 @@ impl<T, const LAST: u32> Arena<T, LAST> {
         self.slots.get_mut(id.index() as usize).value_mut()
     }
 
-    /// The value of `id` for writing, if it is held: the last value that is written is then the one of `id`. It takes no memory.
+    /// The value of `id` for writing, if it is held: when the reference ends, the last value written is that of `id`. Takes no
+    /// memory.
     pub fn get_mut(&mut self, id: CellId) -> Option<&mut T>
         ensures* writes_back { sem 𝓛 (lends_found T.row LAST.row self.entry id result) }
         ensures value { option_copied_mut result ≡ map.get self.old.held id }
@@ -192,8 +193,8 @@ impl<T, const LAST: u32> Arena<T, LAST> {
         }
     }
 
-    /// Takes the value of `id` out, if it is held, and spends the id for good. Where `id` isn't held nothing changes.
-    /// A cell whose value is taken in generation `LAST` is retired, and leaves no room. It takes no memory.
+    /// Removes and returns the value of `id`, if it is held, and spends the id, which never holds a value again. If `id` isn't
+    /// held, changes nothing. A cell whose value is taken in generation `LAST` is retired, and leaves no room. Takes no memory.
     #[inline(always)]
     pub fn take(&mut self, id: CellId) -> Option<T>
         ensures value { result ≡ map.get self.old.held id }
@@ -212,7 +213,7 @@ impl<T, const LAST: u32> Arena<T, LAST> {
         }
     }
 
-    // Takes the value of `id`, which is held, out, and spends the id.
+    // Removes and returns the value of `id`, which is held, and spends the id.
     #[inline(always)]
     fn take_held(&mut self, id: CellId) -> T
         requires { IsTrue (map.contains_key self.old.held id) }

@@ -1,6 +1,6 @@
 use thiserror::Error;
 
-/// Why an arena can't make room. Of both causes the first is told.
+/// Why an arena can't make room. If both causes apply, the first is returned.
 #[derive(Clone, Copy, Debug, PartialEq, Eq, Error)]
 pub enum ArenaFault {
     /// The values, the retired cells and the room that is asked for would together be more than 1,048,576 cells.

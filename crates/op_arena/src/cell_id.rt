@@ -8,8 +8,8 @@ ghost use Rattle.op_arena.specs.Ids.{id_cmp};
 use std::cmp::Ordering;
 use std::marker::Model;
 
-/// The name of one value in an arena: the index of its cell, and how many values that cell held before it. Ids are
-/// ordered by index, then by generation.
+/// The id of one value in an arena: the index of its cell, and the number of values that the cell held before it.
+/// Ids are ordered by index, then by generation.
 #[derive(Clone, Copy, Debug, PartialEq, Eq)]
 pub struct CellId {
     index: u32,

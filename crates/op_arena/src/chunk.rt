@@ -1,4 +1,4 @@
-//! A chunk: memory for a fixed number of values, which are added one after another and never move.
+//! A chunk: memory for a fixed number of values, which are added in order and never move.
 ghost use Rattle.std.specs.Prelude.{◌≡◌, ℕ, ◌+◌, ◌<◌, ◌++◌, ◌∷◌, [], None, Some, length, map};
 ghost use Rattle.std.specs.Prelude.{replicate, slice_get, IfOk};
 ghost use Rattle.std.specs.Borrow.{sem};

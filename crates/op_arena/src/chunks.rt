@@ -51,7 +51,7 @@ fn locate(index: usize) -> (usize, usize)
 impl<T> Chunks<T> {
     ghost use Rattle.op_arena.specs.ChunksLends.{lends_item};
 
-    // No chunk. It takes no memory.
+    // No chunk. Takes no memory.
     pub(crate) fn new(alloc: Global) -> Self
         ensures { result ≡ column [] 0 }
     {

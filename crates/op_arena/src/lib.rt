@@ -1,7 +1,7 @@
 //! Cells in raw memory, each under an id that never means another cell.
 //!
-//! An arena is seen as a finite map from ids to values, beside the set of spent ids and the room that is left. An
-//! id that was taken answers nothing for good. Growth adds a chunk and moves nothing.
+//! Contracts see an arena as a finite map from ids to values, with the set of spent ids and the room that is
+//! left. An id that was taken gives no value from then on. Growth adds a chunk and moves nothing.
 #![tactic(auto)]
 
 mod arena;

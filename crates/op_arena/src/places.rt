@@ -13,7 +13,7 @@ use std::alloc::{AllocError, Allocator};
 use std::marker::{Model, PhantomData, Send, Sync};
 use std::mem::{align_of, size_of};
 
-// Places side by side. No place moves while they live, so an address stays good.
+// Places side by side. No place moves while they live, so an address stays valid.
 pub(crate) struct Places<T> {
     first: *mut T,
     ghost slots: { List (Option T) },
@@ -45,7 +45,7 @@ impl<T, A: Allocator> Model for Lease<T, A> {
 
 unsafe impl<T, A: Allocator + Send> Send for Lease<T, A> {}
 
-// A `&` to a lease gives nothing.
+// A `&` to a lease gives no right.
 unsafe impl<T, A: Allocator> Sync for Lease<T, A> {}
 
 impl<T> Places<T> {

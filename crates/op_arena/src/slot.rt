@@ -21,7 +21,7 @@ pub(crate) enum State<T> {
     /// A value.
     Held(T),
 
-    /// Nothing, for good.
+    /// No value, and never again one.
     Retired,
 }
 
@@ -103,7 +103,7 @@ impl<T> Slot<T> {
         self.state.value_mut()
     }
 
-    // Gives a free cell a value, and tells the next free cell.
+    // Gives a free cell a value, and returns the next free cell.
     pub(crate) fn fill(&mut self, value: T) -> Option<u32>
         requires { IsFree self.old.state }
         ensures next { self.old.state ≡ State.Free result }
@@ -112,7 +112,8 @@ impl<T> Slot<T> {
         mem::replace(&mut self.state, State::Held(value)).into_next()
     }
 
-    // Takes the value out. The cell is free in its next generation, before `next`, or retired after the last one.
+    // Removes and returns the value. The cell is free in its next generation, before `next`, or retired after the
+    // last one.
     #[inline(always)]
     pub(crate) fn empty(&mut self, next: Option<u32>, last: u32) -> T
         requires { IsSome (value_of self.old.state) × (self.old.generation ≤ last) }

@@ -16,7 +16,7 @@ total_above (p ∷ k) site queue calls o h = elim (cases_in p k o h) [
   | inr r ↦ omega (arith, total_above k site queue calls o r)
 ]
 
--- and a bound of all that is said bounds the total
+-- a bound of all counts bounds the total
 total_below : (k : Knowledge) (site queue : ℕ) (calls : Calls) (most : ℕ) → ((o : Operation) → Contains k o → count_in site queue calls o ≤ most) → site_total k site queue calls ≤ most
 total_below [] site queue calls most h = omega arith
 total_below (p ∷ k) site queue calls most h =
@@ -54,6 +54,6 @@ sum_grows (suc n) f g h = omega (arith, sum_grows n f g h, h n)
 pub queue_above : (k : Knowledge) (site queue : ℕ) (calls : Calls) → site < SITES → site_total k site queue calls ≤ queue_total k queue calls
 queue_above k site queue calls h = term_below SITES (λ s. site_total k s queue calls) site h
 
--- and doesn't fall as the knowledge grows
+-- a queue's total doesn't fall as the knowledge grows
 pub queue_grows : (k l : Knowledge) → ((o : Operation) → Contains k o → Contains l o) → (queue : ℕ) (calls : Calls) → queue_total k queue calls ≤ queue_total l queue calls
 queue_grows k l to queue calls = sum_grows SITES (λ s. site_total k s queue calls) (λ s. site_total l s queue calls) (λ site. total_grows k l to site queue calls)

@@ -196,7 +196,7 @@ single_limits key totals h q p e =
 pub counted_not_zero : (key : Key) (totals : CallTotals) → IsTotal key totals → is_zero totals ≡ false
 counted_not_zero key totals h = grind (arith, nat_tests, h.counted)
 
--- and totals that are not two zeros are counted
+-- totals that are not two zeros are counted
 pub counted_of : (totals : CallTotals) → is_zero totals ≡ false → 0 < totals.completed + totals.abandoned
 counted_of totals h = grind (arith, nat_tests)
 

@@ -35,7 +35,7 @@ joins a b p q = (λ i. p i && not (q i))
 pub visible_parts : (k : Knowledge) (dot : Dot) → set.contains (visible_dots k) dot ≡ true → (is_asserted k dot ≡ true) × (is_named k dot ≡ false)
 visible_parts k dot h = both (is_asserted k dot) (is_named k dot) (sym (visible_dot k dot) ∙ h)
 
--- and what is so is visible
+-- a dot that is asserted and not named is visible
 pub visible_from : (k : Knowledge) (dot : Dot) → is_asserted k dot ≡ true → is_named k dot ≡ false → set.contains (visible_dots k) dot ≡ true
 visible_from k dot asserted unnamed = visible_dot k dot ∙ joins (is_asserted k dot) (is_named k dot) asserted unnamed
 
@@ -65,7 +65,7 @@ stays_named l k m dot h =
     or_true true b = refl
     or_true false b = refl
 
--- a named dot is dead for good
+-- a named dot stays dead
 pub dead_for_good : (l k m : Knowledge) (dot : Dot) → is_named k dot ≡ true → set.contains (visible_dots (l ++ k ++ m)) dot ≡ false
 dead_for_good l k m dot h =
     visible_dot (l ++ k ++ m) dot ∙ (λ i. is_asserted (l ++ k ++ m) dot && not (stays_named l k m dot h i)) ∙ and-false (is_asserted (l ++ k ++ m) dot)

@@ -7,7 +7,7 @@ use Rattle.dots.specs.Values.{Stamp, PauseState}
 use Rattle.operations.specs.Registers.{Entry}
 use Rattle.operations.specs.Conditions.{DotFields}
 
--- how a text, or any other list of bytes, is stored: as a list of numbers
+-- a text, or any other list of bytes, is stored as a list of numbers
 abbrev pub text_code : Coded (List ℕ)
 text_code = coded_list coded_ℕ
 

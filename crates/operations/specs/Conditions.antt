@@ -1,4 +1,4 @@
--- The condition of a dot: unknown, below live with its fields, below dead. A delta has one for each dot that it has heard of.
+-- The condition of a dot, ordered unknown < live (with its fields) < dead. A delta has a condition for each dot that it knows.
 use Rattle.std.specs.Prelude.{ℕ, ◌≡◌, ◌⊎◌, Bool, false, Option, Some, None, if◌then◌else◌}
 use Rattle.std.specs.Option.{option_map}
 use Rattle.std.specs.FinMap as map
@@ -28,7 +28,7 @@ pub record DotFields : Type 0 where
 abbrev pub no_fields : DotFields
 no_fields = record { penalty = None; pause = None; label = None; ring = None }
 
--- what is known of a dot: it is live, with its member and fields, or dead. Of an unknown dot there is no condition.
+-- what is known of a dot: it is live, with its member and fields, or dead. An unknown dot has no condition.
 pub data Condition : Type 0 where
   Live : (member : Member) (fields : DotFields) → Condition
   Dead : Condition
@@ -68,8 +68,7 @@ ConditionsAgree (Some (Live m f)) None = Unit {0}
 ConditionsAgree (Some Dead) y = Unit {0}
 ConditionsAgree None y = Unit {0}
 
--- the join of fields `x` and `y`: of each field the entry of the greater stamp (RR-7506), of equal
--- stamps that of `x`
+-- the join of fields `x` and `y`: of each field the entry of the greater stamp (RR-7506), for equal stamps that of `x`
 abbrev pub fields_joined : DotFields → DotFields → DotFields
 fields_joined x y = record {
   penalty = join_of x.penalty y.penalty;
@@ -114,8 +113,8 @@ pub record Represents (condition : Dot → Option Condition) (known : set.FinSet
   pub totals : (site queue : ℕ) → totals_of counts site queue ≡ record { completed = site_total k site queue Completed; abandoned = site_total k site queue Abandoned }
   pub no_zeros : (key : Key) (totals : CallTotals) → map.get counts key ≡ Some totals → is_zero totals ≡ false
 
--- the conditions `c` and `d` are one for each dot, the known dots `known` and `heard` are one set,
--- and `counts` and `totals` the same entries
+-- the conditions `c` and `d` are equal for each dot, the known dots `known` and `heard` are equal sets, and `counts` and `totals`
+-- have the same entries
 pub record IsOne (c d : Dot → Option Condition) (known heard : set.FinSet dot_cmp) (counts totals : Entries) : Type 0 where
   pub conditions : (dot : Dot) → c dot ≡ d dot
   pub dots : known ≡ heard

@@ -7,21 +7,21 @@ use Rattle.operations.specs.Operations.{Operation, Add, Write, Remove, Count}
 use Rattle.operations.specs.Knowledge.{Knowledge}
 use Rattle.operations.specs.Totals.{sum_below}
 
--- how many of the calls `calls` an operation says that `site` has counted in `queue`; 0 where it
--- says nothing of them
+-- the number of the calls `calls` that `site` has counted in `queue` by an operation; 0 if the operation counts
+-- none of them
 abbrev pub count_in : ℕ → ℕ → Calls → Operation → ℕ
 count_in site queue calls (Add dot member stamp penalty pause label older) = 0
 count_in site queue calls (Write dots setting stamp older) = 0
 count_in site queue calls (Remove dots) = 0
 count_in site queue calls (Count s q c total) = if s == site && (q == queue && same_calls c calls) then total else 0
 
--- how many of the calls `calls` the site `site` has counted in `queue`: the greatest number that an
--- operation of the knowledge says, or 0
+-- the number of the calls `calls` that `site` has counted in `queue`: the greatest of the knowledge's operations,
+-- or 0
 abbrev pub site_total : Knowledge → ℕ → ℕ → Calls → ℕ
 site_total [] site queue calls = 0
 site_total (o ∷ k) site queue calls = max (count_in site queue calls o) (site_total k site queue calls)
 
--- how many of the calls `calls` were counted in `queue`: the sum of the totals of the 64 sites in
--- knowledge `k`
+-- the number of the calls `calls` that were counted in `queue`: the sum of the totals of the 64 sites in knowledge
+-- `k`
 abbrev pub queue_total : Knowledge → ℕ → Calls → ℕ
 queue_total k queue calls = sum_below SITES (λ site. site_total k site queue calls)

@@ -1,5 +1,5 @@
--- A knowledge is a set of operations: all that a site has made or taken. It is written as a list. Where it is consistent it is read
--- by what it contains alone, so that order and repetition don't matter.
+-- A knowledge is a set of operations: all that a site has made or taken. It is written as a list. What is read of a consistent one
+-- depends only on the operations in it, not on their order or repetition.
 use Rattle.std.specs.Prelude.{◌≡◌, ◌≢◌, ◌↔◌, Bool, not, List, [], ◌∷◌, Option, Some, None, map, Contains, if◌then◌else◌}
 use Rattle.std.specs.List.{list_any, flat_map, filter_map, find}
 use Rattle.std.specs.Option.{option_map}
@@ -54,12 +54,11 @@ named_dots (o ∷ k) = set.union (named_by o) (named_dots k)
 unfoldable pub visible_dots : Knowledge → set.FinSet dot_cmp
 visible_dots k = set.retain (asserted_dots k) (λ dot. not (is_named k dot))
 
--- the dots that knowledge `k` has heard of at all: some operation asserts or names them
+-- the known dots of knowledge `k`: some operation asserts or names them
 unfoldable pub known_dots : Knowledge → set.FinSet dot_cmp
 known_dots k = set.union (asserted_dots k) (named_dots k)
 
--- the member of `dot` in knowledge `k`: the one with which the first operation that asserts the dot
--- does so; `None` where none does
+-- the member of `dot` in knowledge `k`: the one of the first operation that asserts the dot; `None` if none does
 abbrev pub member_of : Knowledge → Dot → Option Member
 member_of k dot = option_map (λ p. p.1) (find (λ p. is_dot dot p.0) (all_asserted k))
 
@@ -74,14 +73,13 @@ pub record IsFieldOf {T : Type 0} (field : Field T) (k : Knowledge) (dot : Dot) 
   pub given : Contains (settings_of field k dot) entry
   pub latest : (e : Entry T) → Contains (settings_of field k dot) e → stamp_cmp entry.stamp e.stamp ≢ Less
 
--- the entry of the greatest stamp in a list of entries, of equal stamps the first; `None` where the
--- list is empty
+-- the entry of the greatest stamp in a list of entries, for equal stamps the first; `None` where the list is empty
 abbrev pub latest_of : {T : Type 0} → List (Entry T) → Option (Entry T)
 latest_of [] = None
 latest_of (e ∷ es) = join_of (Some e) (latest_of es)
 
--- the field of `dot` in knowledge `k`, computed: of the entries that operations which assert the
--- dot set, the one of the greatest stamp, of equal stamps the first
+-- the field of `dot` in knowledge `k`, computed: of the entries that operations which assert the dot set, the one of the greatest
+-- stamp, for equal stamps the first
 abbrev pub field_of : {T : Type 0} → Field T → Knowledge → Dot → Option (Entry T)
 field_of field k dot = latest_of (settings_of field k dot)
 

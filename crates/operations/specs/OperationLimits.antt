@@ -1,4 +1,4 @@
--- The limits of what operations have. What operations show doesn't ask for them.
+-- The limits of the values of operations. What operations show doesn't depend on them.
 use Rattle.std.specs.Prelude.{ℕ, ⊤, ◌<◌, ◌≤◌, List, Contains}
 use Rattle.std.specs.FinSet as set
 use Rattle.dots.specs.declared.label.Label.{Label}

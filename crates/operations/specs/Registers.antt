@@ -1,12 +1,12 @@
--- What a register holds, over any type of values: when two registers agree, and what their join is
--- (RR-7506's last-writer-wins register).
+-- The entries of registers, over any type of values: when two registers agree, and what their join is (RR-7506's
+-- last-writer-wins register).
 use Rattle.std.specs.Prelude.{◌≡◌, ◌≢◌, ◌⊎◌, Option, Some, None, IsSome, if◌then◌else◌}
 use Rattle.std.specs.Ordering.{is_lt}
 use Rattle.std.specs.declared.cmp.Ordering.TheVariants.{Less}
 use Rattle.dots.specs.Values.{Stamp}
 use Rattle.dots.specs.Orders.{stamp_cmp}
 
--- what a register holds: a value, and the stamp under which it was written
+-- an entry of a register: a value, and the stamp under which it was written
 pub record Entry (T : Type 0) : Type 0 where
   pub stamp : Stamp
   pub value : T
@@ -28,8 +28,8 @@ pub record RegistersInConflict {T : Type 0} (x y : Option (Entry T)) : Type 0 wh
 abbrev pub latest : {T : Type 0} → Entry T → Entry T → Entry T
 latest a b = if is_lt (stamp_cmp a.stamp b.stamp) then b else a
 
--- the join of two registers: the entry of the greater stamp, of equal stamps that of the first; an
--- empty one adds nothing
+-- the join of two registers: the entry of the greater stamp, for equal stamps that of the first; an empty one adds
+-- nothing
 abbrev pub join_of : {T : Type 0} → Option (Entry T) → Option (Entry T) → Option (Entry T)
 join_of None y = y
 join_of (Some a) None = Some a

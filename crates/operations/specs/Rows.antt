@@ -23,20 +23,18 @@ pub record MemberRow : Type 0 where
   pub state : List ℕ
   pub ring : Bool
 
--- what is seen of dots, be it of a knowledge or of what stands for one: the visible dots, and of
--- each its member and fields
+-- a dot view, of a knowledge or of a state that stands for one: the visible dots, and the member and fields of each
 pub record DotView : Type 0 where
   pub visible : set.FinSet dot_cmp
   pub member : Dot → Option Member
   pub fields : Dot → DotFields
 
--- the dot view of knowledge `k`: its visible dots, and what its operations give of a dot as its
--- member and fields
+-- the dot view of knowledge `k`: its visible dots, and the member and fields of a dot by its operations
 abbrev pub dot_view : Knowledge → DotView
 dot_view k = record { visible = visible_dots k; member = member_of k; fields = fields_in k }
 
--- views `r` and `s` show alike: they have the same visible dots, and of each of these the same member and fields;
--- what they give of other dots doesn't count
+-- views `r` and `s` show alike: they have the same visible dots, with the same member and fields each; values for other dots may
+-- differ
 pub record ShowAlike (r s : DotView) : Type 0 where
   pub visible : r.visible ≡ s.visible
   pub member : (dot : Dot) → set.contains r.visible dot ≡ true → r.member dot ≡ s.member dot
@@ -50,8 +48,7 @@ is_of r member dot = option_map_or (eq_by_cmp member_cmp member) (r.member dot) 
 abbrev pub dots_of : DotView → Member → List Dot
 dots_of r member = filter (is_of r member) (in_order r.visible)
 
--- a field of `member` in view `r`: the entry of the greatest stamp over its visible dots, of equal
--- stamps that of the least dot
+-- a field of `member` in view `r`: the entry of the greatest stamp over its visible dots, for equal stamps that of the least dot
 abbrev pub member_field : {T : Type 0} → (Dot → Option (Entry T)) → DotView → Member → Option (Entry T)
 member_field field r member = latest_of (filter_map field (dots_of r member))
 
@@ -77,8 +74,8 @@ not_paused = record { paused = false; reason = [] }
 abbrev pub no_label : Label
 no_label = record { name = []; state = [] }
 
--- the row that fields show; what was never set has its default: penalty 0, not paused, no reason, no name, no state interface,
--- ring in use
+-- the row that fields show; a field that was never set has its default: penalty 0, not paused, no reason, no name, no state
+-- interface, ring in use
 abbrev pub row_of_fields : DotFields → MemberRow
 row_of_fields fields =
     let p = value_or not_paused fields.pause in let l = value_or no_label fields.label in

@@ -1,4 +1,4 @@
--- What the readings of a knowledge promise, in statements that name no computation.
+-- Properties of what a knowledge shows, in statements that name no computation.
 use Rattle.std.specs.Prelude.{ℕ, ◌≡◌, ◌≢◌, ◌≤◌, ◌↔◌, ◌⊎◌, true, false, Some, None, IsSome, Contains}
 use Rattle.std.specs.FinSet as set
 use Rattle.std.specs.declared.cmp.Ordering.TheVariants.{Less}

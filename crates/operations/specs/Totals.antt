@@ -1,5 +1,4 @@
--- Running totals of calls (RR-7506's grow-only counter, one entry for each site): whose they are, what their
--- join is, and what is read of them.
+-- Running totals of calls (RR-7506's grow-only counter, one entry for each site): their keys, their join, and their sums.
 use Rattle.std.specs.Prelude.{ℕ, zero, suc, ◌≡◌, ◌+◌, ◌≤◌, ◌<◌, ◌++◌, max, Some, is_none, map as each, if◌then◌else◌, refl}
 use Rattle.std.specs.Option.{unwrap_or}
 use Rattle.std.specs.List.{count_by}
@@ -12,7 +11,7 @@ use Rattle.dots.specs.declared.limits.TheConstants.{MOST_CALLS, QUEUES, SITES}
 use Rattle.dots.specs.Values.{IsSite}
 use Rattle.dots.specs.CountedCalls.{no_calls, is_zero}
 
--- whose totals an entry has: those of a site in a queue
+-- the key of an entry: a site and a queue
 pub record Key : Type 0 where
   pub site : ℕ
   pub queue : ℕ
@@ -60,7 +59,7 @@ join_of x y = map.from_entries (each (λ key. (key, greater (totals_at x key) (t
 abbrev pub single : Key → CallTotals → Entries
 single key totals = if is_zero totals then map.empty else map.insert map.empty key totals
 
--- how many keys that have an entry in `y` have none in `x`
+-- the number of keys that have an entry in `y` and none in `x`
 abbrev pub count_missing : Entries → Entries → ℕ
 count_missing x y = count_by (λ key. is_none (map.get x key)) (map.keys y)
 
@@ -76,7 +75,7 @@ sum_of entries queue = record {
   abandoned = sum_below SITES (λ site. (totals_of entries site queue).abandoned);
 }
 
--- an entry that may be kept: of a site, in one of the queues, with two numbers within their limit that are not both zero
+-- an entry within its limits: of a site, in one of the queues, with two numbers within their limit that are not both zero
 pub record IsTotal (key : Key) (totals : CallTotals) : Type 0 where
   pub site : IsSite key.site
   pub queue : key.queue < QUEUES
@@ -84,7 +83,6 @@ pub record IsTotal (key : Key) (totals : CallTotals) : Type 0 where
   pub abandoned : totals.abandoned ≤ MOST_CALLS
   pub counted : 0 < totals.completed + totals.abandoned
 
--- every entry may be kept: it is of a site and a queue, and its numbers are within their limit and
--- not both zero
+-- every entry is within its limits: it is of a site and a queue, and its numbers are within their limit and not both zero
 abbrev pub InLimits : Entries → Type 0
 InLimits entries = (key : Key) (totals : CallTotals) → map.get entries key ≡ Some totals → IsTotal key totals

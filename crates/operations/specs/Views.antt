@@ -1,4 +1,4 @@
--- Rows as readers are given them, seen without where their bytes lie in memory.
+-- Rows as readers get them, without where their bytes are in memory.
 use Rattle.std.specs.Prelude.{ℕ, List}
 use Rattle.std.specs.Borrow.{Bor}
 use Rattle.operations.specs.Rows.{MemberRow}

@@ -1,4 +1,4 @@
-//! What the definitions of a knowledge promise. The functions have no body: their contracts are the laws.
+//! Laws of a knowledge. The functions have no body: their contracts are the laws.
 ghost use Rattle.std.specs.Prelude.{◌≡◌, ◌↔◌, ◌≤◌, ◌<◌, ℕ, true, false, Option, Some, None, IsSome};
 ghost use Rattle.std.specs.Prelude.{◌++◌};
 ghost use Rattle.std.specs.FinSet as set;
@@ -26,7 +26,7 @@ pub fn a_visible_dot_is_asserted_and_not_named()
         → (set.contains (visible_dots k) dot ≡ true) ↔ IsVisible k dot }
 {}
 
-/// A dot that is named is dead for good: no operations before and after make it visible again (RR-8083).
+/// A named dot stays dead: no operations before or after make it visible again (RR-8083).
 pub fn a_named_dot_is_dead_for_good()
     ensures { (before k after : Knowledge) (dot : Dot) → is_named k dot ≡ true
         → set.contains (visible_dots (before ++ k ++ after)) dot ≡ false }
@@ -39,7 +39,7 @@ pub fn knowledges_of_the_same_operations_show_the_same()
 {}
 
 /// A member has a row exactly where a dot of it is visible, and each field of the row is the setting of the greatest stamp
-/// over its visible dots, of equal stamps that of the least dot, or the default where none of them is set (RR-7506's
+/// over its visible dots, for equal stamps that of the least dot, or the default where none of them is set (RR-7506's
 /// last-writer register).
 pub fn a_member_with_a_visible_dot_has_a_row()
     ensures there { (k : Knowledge) (member : Member)
@@ -56,8 +56,8 @@ pub fn a_member_with_a_visible_dot_has_a_row()
     ensures ring { (k : Knowledge) (member : Member) → ShowsLatest ring_field k member }
 {}
 
-/// The field of a dot that is computed is the latest setting, and is there exactly where some operation that asserts the dot
-/// sets it (RR-7506's last-writer register).
+/// The computed field of a dot is the latest setting, and is there exactly where some operation that asserts the dot sets it
+/// (RR-7506's last-writer register).
 pub fn a_field_is_the_latest_setting()
     ensures penalty { (k : Knowledge) (dot : Dot) → IsComputed penalty_field k dot }
     ensures pause { (k : Knowledge) (dot : Dot) → IsComputed pause_field k dot }
@@ -91,8 +91,8 @@ pub fn a_join_of_conditions_is_the_least_above_both()
         → IsLeastAbove IsConditionBelow x y (condition_joined x y) }
 {}
 
-/// Conditions are joined in any order (RR-7506: states form a join semilattice). A dead dot stays dead and kills the other,
-/// and an unknown one changes nothing (RR-8083).
+/// Join is commutative, associative and idempotent on conditions that agree (RR-7506: states form a join semilattice). A dead
+/// dot stays dead and kills the other, and an unknown one changes nothing (RR-8083).
 pub fn conditions_are_joined()
     ensures join { IsJoin ConditionsAgree condition_joined }
     ensures dead_wins { (x : Option Condition)
@@ -102,7 +102,8 @@ pub fn conditions_are_joined()
         → (condition_joined None x ≡ x) × (condition_joined x None ≡ x) }
 {}
 
-/// All that represents one knowledge is one: the same condition of each dot, the same known dots and the same totals.
+/// Any two representations of one knowledge are equal: the same condition of each dot, the same known dots and the same
+/// totals.
 pub fn what_stands_for_a_knowledge_is_one()
     ensures { (c d : Dot → Option Condition) (known heard : set.FinSet dot_cmp)
         (counts totals : Entries) (k : Knowledge)
@@ -110,8 +111,8 @@ pub fn what_stands_for_a_knowledge_is_one()
         → IsOne c d known heard counts totals }
 {}
 
-/// Views that show alike, be they of a knowledge or of what stands for it, have the same rows: what a view gives of a dot that
-/// isn't visible makes no difference.
+/// Views that show alike, of a knowledge or of a state that stands for it, have the same rows: unspecified values for dots
+/// that aren't visible have no effect.
 pub fn views_that_show_alike_have_the_same_rows()
     ensures row { (r s : DotView) → ShowAlike r s → (member : Member)
         → row_of r member ≡ row_of s member }

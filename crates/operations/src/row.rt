@@ -1,4 +1,4 @@
-/// What a queue shows of one member: for each field the latest value that was set.
+/// The row of a member that a queue shows: for each field the latest value that was set.
 #[derive(Clone, Copy, Debug, PartialEq, Eq)]
 pub struct Row<'a> {
     /// The penalty; 0 where none was set.

@@ -58,7 +58,7 @@ fn exit_of<R: Eprint>(rt: &R, end: Result<u64, ScriptFault>) -> io::Result<Exit>
     }
 }
 
-// How serving sites has ended.
+// The end of serving sites.
 #[derive(Clone, Copy)]
 enum ServedEnd {
     Done,

@@ -55,7 +55,7 @@ module _ (o : Operation) (made dead : List Dot) (touches : Touches o made dead) 
       ap (λ s. set.contains s q) foreseen.known ∙ known_dot (o ∷ k) q
       ∙ (λ i. or_comm (made_are q i) (is_asserted k q) i || or_comm (dead_are q i) (is_named k q) i)
 
-  -- those of the operation alone
+  -- the known dots of the operation alone
   pub known_alone : (q : Dot) → set.contains (known_dots (o ∷ [])) q ≡ ((is_asserted [] q || list_any (is_dot q) made) || (is_named [] q || list_any (is_dot q) dead))
   known_alone q =
       known_dot (o ∷ []) q

@@ -1,4 +1,4 @@
--- Dots in their order, and whether one goes on in the next.
+-- Dots in order, and whether one goes on in the next.
 use Rattle.std.specs.Prelude.{Bool, false, List, [], ◌∷◌}
 use Rattle.dots.specs.Values.{Dot}
 use Rattle.dots.specs.DotSets.{next_dot}

@@ -1,4 +1,4 @@
--- What is seen of entries and fields, without where they lie in memory.
+-- Entries and fields as contracts see them, without where they are in memory.
 use Rattle.std.specs.Prelude.{List, Option, Some, None}
 use Rattle.std.specs.List.{filter_map}
 use Rattle.dots.specs.Values.{Dot}
@@ -27,8 +27,8 @@ fields_of fields = record {
 abbrev pub fields_set : Operation → DotFields
 fields_set o = record { penalty = penalty_field o; pause = pause_field o; label = label_field o; ring = ring_field o }
 
--- the fields of `dots` together in knowledge `k`: of each the entry of the greatest stamp, of equal
--- stamps that of the first dot
+-- the fields of `dots` together in knowledge `k`: of each the entry of the greatest stamp, for equal stamps that of
+-- the first dot
 abbrev pub fields_over : Knowledge → List Dot → DotFields
 fields_over k dots = record {
   penalty = latest_of (filter_map (field_of penalty_field k) dots);

@@ -4,7 +4,7 @@ use dots::{Interface, Label, Penalty, QueueName};
 /// A change that is asked of a site (Asterisk's queue actions).
 #[derive(Drop)]
 pub enum Change {
-    /// Adds the interface to the queue, with what is set of it.
+    /// Adds the interface to the queue, with these fields.
     AddMember {
         /// The queue.
         queue: QueueName,

@@ -1,4 +1,4 @@
-// How many dots are visible, and how many runs the known ones have, with those that one operation more asserts and names.
+// The number of visible dots, and of runs of known ones, with those that one more operation asserts and names.
 ghost use Rattle.std.specs.Prelude.{◌≡◌, ◌||◌, ◌&&◌, ◌+◌, not, count_by, map as each, IfOk, OnOk};
 ghost use Rattle.std.specs.FinSet as set;
 ghost use Rattle.std.specs.List.{list_any};
@@ -17,7 +17,7 @@ use dots::{Dot, Memory};
 use std::alloc::Global;
 use std::collections::BTreeSet;
 
-// The dots of a set, in their order.
+// The dots of a set, in order.
 fn listed(alloc: Global, dots: &BTreeSet<Dot>) -> Result<Vec<Dot>, Memory>
     ensures { IfOk result (λ listed. listed.items ≡ dots.now.keys) }
 {
@@ -95,7 +95,7 @@ fn count_missing(first: &BTreeSet<PlainDot>, second: &BTreeSet<PlainDot>) -> usi
     first.iter().filter(|dot| !second.contains(*dot)).count()
 }
 
-// The dots of a set, in their order.
+// The dots of a set, in order.
 fn in_vec(alloc: Global, found: &BTreeSet<PlainDot>) -> Result<Vec<PlainDot>, Memory>
     ensures value { IfOk result (λ dots. dots.items ≡ found.now.keys) }
     ensures ordered { IsStrictlySortedBy dot_cmp found.now.keys }
@@ -113,7 +113,7 @@ fn goes_on(dot: PlainDot, dots: &[PlainDot]) -> bool
     }
 }
 
-// How many runs dots in their order have: one for each dot that isn't followed by the one of the next count.
+// How many runs dots in order have: one for each dot that isn't followed by the one of the next count.
 fn count_ends(dots: &[PlainDot]) -> usize
     requires { IsStrictlySortedBy dot_cmp dots.now }
     ensures { result ≡ run_count (set.from_list dots.now) }

@@ -88,7 +88,7 @@ pub(crate) fn named_dots(alloc: Global, operations: &[Operation]) -> Result<BTre
     Ok(found)
 }
 
-// Of a set of dots those that no operation names, in their order.
+// Of a set of dots those that no operation names, in order.
 fn unnamed(
     alloc: Global,
     operations: &[Operation],
@@ -106,7 +106,7 @@ fn unnamed(
         .collect(alloc)
 }
 
-// The dots that some operation asserts and none names, in their order.
+// The dots that some operation asserts and none names, in order.
 pub(crate) fn visible_dots(alloc: Global, operations: &[Operation]) -> Result<Vec<Dot>, Memory>
     ensures { IfOk result
         (λ dots. dots.items ≡ in_order (visible_dots (knowledge_of operations.now))) }
@@ -115,7 +115,7 @@ pub(crate) fn visible_dots(alloc: Global, operations: &[Operation]) -> Result<Ve
     unnamed(alloc, operations, &found)
 }
 
-// The member with which the first operation that asserts `dot` does so; `None` where none does.
+// The member of the first operation that asserts `dot`; `None` if none does.
 pub(crate) fn member_of(operations: &[Operation], dot: Dot) -> Option<&Member>
     ensures { option_map (λ m. m.now) result ≡ member_of (knowledge_of operations.now) dot }
 {
@@ -137,7 +137,7 @@ fn is_of(operations: &[Operation], member: &Member, dot: Dot) -> bool
     }
 }
 
-/// The visible dots of a member, in their order. The one fault is want of memory.
+/// The visible dots of a member, in order. Fails only when out of memory.
 pub fn dots_of_member(
     alloc: Global,
     operations: &[Operation],

@@ -8,7 +8,7 @@ use crate::entry::{Entry, later};
 use dots::{Label, Pause, Penalty};
 use replica::Row;
 
-// What is set of a dot or a member: for each field a value with its stamp, or nothing.
+// The fields of a dot or a member: for each field a value with its stamp, or nothing.
 #[derive(Clone, Copy)]
 pub(crate) struct Fields<'a> {
     pub penalty: Option<Entry<Penalty>>,

@@ -1,4 +1,4 @@
-// What is set of the fields of dots.
+// The fields of dots.
 ghost use Rattle.std.specs.Prelude.{◌≡◌};
 ghost use Rattle.operations.specs.Conditions.{fields_in};
 ghost use Rattle.reference_model.specs.Plain.{knowledge_of};
@@ -21,7 +21,8 @@ pub(crate) fn fields_in(operations: &[Operation], dot: Dot) -> Fields<'_>
     fields
 }
 
-// The fields of these dots together: of each the setting of the greatest stamp, of equal stamps that of the first dot.
+// The fields of these dots together: of each the setting of the greatest stamp, for equal stamps that of the first
+// dot.
 pub(crate) fn fields_over<'a>(operations: &'a [Operation], dots: &[Dot]) -> Fields<'a>
     ensures { fields_of result ≡ fields_over (knowledge_of operations.now) dots.now }
 {

@@ -1,8 +1,8 @@
-//! What a list of operations shows, what a change means at a site that knows them, and the steps of a site, computed plainly
-//! and slowly. It is for tests.
+//! A plain, slow computation of the definitions, for tests: what a list of operations shows, what a change means at a site
+//! that knows them, and the steps of a site.
 //!
-//! The operations are kept as they are and read anew for each answer, step by step as the definitions say, so that what
-//! the definitions mean can be seen by running them.
+//! The operations are stored as they are and read again for each result, step by step as the definitions state, so that the
+//! definitions can be checked by running them.
 #![tactic(auto)]
 
 mod change;

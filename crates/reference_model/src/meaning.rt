@@ -1,7 +1,7 @@
 use crate::Operation;
 use replica::Refusal;
 
-/// What a change means at a site.
+/// The meaning of a change at a site.
 #[derive(Drop)]
 pub enum Meaning {
     /// The change is refused, for this cause.

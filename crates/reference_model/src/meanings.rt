@@ -1,4 +1,4 @@
-// What changes mean.
+// The meanings of changes.
 ghost use Rattle.std.specs.Prelude.{◌≡◌, ◌||◌, ℕ, [], map as each, IfOk};
 ghost use Rattle.operations.specs.Operations as defined;
 ghost use Rattle.replica.specs.Changes.{SetField, add_at, count_at, is_full, is_too_long, meaning};
@@ -290,8 +290,8 @@ fn set_field(
     }
 }
 
-/// What a change means at the site of this number, which has these queues: a refusal, or one operation more. Of several causes
-/// of a refusal the first of `Refusal` is given, but never `Memory`: the one fault is want of memory.
+/// What a change means at the site of this number, which has these queues: a refusal, or an operation to make. Where several
+/// refusals apply, returns the first of `Refusal`, but never `Memory`: to run out of memory is the only error.
 pub fn meaning_at(
     alloc: Global,
     site: SiteId,

@@ -18,8 +18,8 @@ use replica::Row;
 use std::alloc::Global;
 use std::collections::BTreeSet;
 
-/// The row of a member, of which each field is the setting of the greatest stamp over the member's visible dots
-/// (RR-7506's last-writer register). `None` where none of its dots is visible. The one fault is want of memory.
+/// The row of a member. Each of its fields is the setting of the greatest stamp over the member's visible dots
+/// (RR-7506's last-writer register). `None` if none of its dots is visible. Fails only when out of memory.
 pub fn row<'a>(
     alloc: Global,
     operations: &'a [Operation],
@@ -36,8 +36,8 @@ pub fn row<'a>(
     Ok(Some(fields_over(operations, &dots).row()))
 }
 
-/// The members of the queue of this number with their rows, in the order of their interfaces' bytes. The one fault is
-/// want of memory.
+/// The members of the queue of this number with their rows, in the order of their interfaces' bytes. Fails only when
+/// out of memory.
 pub fn rows(
     alloc: Global,
     operations: &[Operation],
@@ -76,7 +76,7 @@ fn interfaces_of(
     in_vec(alloc, &found)
 }
 
-// The interfaces of a set, in their order.
+// The interfaces of a set, in order.
 fn in_vec<'a>(alloc: Global, found: &BTreeSet<&'a Interface>) -> Result<Vec<&'a Interface>, Memory>
     ensures value { IfOk result (λ listed. listed.items ≡ found.now.keys) }
     ensures ordered { IsStrictlySortedBy (λ a b. text_cmp a.now b.now) found.now.keys }

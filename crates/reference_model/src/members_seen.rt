@@ -1,4 +1,4 @@
-// The visible dots that a change goes over, each with its member.
+// The visible dots that a change is for, each with its member.
 ghost use Rattle.std.specs.Prelude.{◌≡◌, map as each, filter_map, IfOk};
 ghost use Rattle.operations.specs.Rows.{dot_view};
 ghost use Rattle.operations.specs.Knowledge.{visible_dots};

@@ -214,7 +214,7 @@ impl Operation {
         }
     }
 
-    /// The same operation once more. The one fault is want of memory.
+    /// Returns a copy. Fails only when out of memory.
     pub fn copy(&self, alloc: Global) -> Result<Operation, Memory>
         ensures { IfOk result (λ copy. operation_of copy ≡ operation_of self.now) }
     {

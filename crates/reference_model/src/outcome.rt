@@ -1,7 +1,7 @@
 use crate::Operation;
 use replica::Refusal;
 
-/// What comes of a step.
+/// The outcome of a step.
 #[derive(Drop)]
 pub enum Outcome {
     /// The command is done.

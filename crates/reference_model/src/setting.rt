@@ -55,7 +55,7 @@ impl Setting {
         fields
     }
 
-    /// The same setting once more. It takes no memory.
+    /// Returns a copy. Takes no memory.
     pub fn copy(&self) -> Setting
         ensures { setting_of result ≡ setting_of self.now }
     {

@@ -1,7 +1,6 @@
 use crate::Operation;
 
-/// What a site knows, what of its own it has put in no frame yet, and how many frames it has made. The operations that came
-/// last stand first.
+/// What a site knows, its buffer, and the number of frames that it has made. The latest operations stand first.
 #[derive(Drop)]
 pub struct SiteKnowledge {
     /// All operations that the site has made or taken.

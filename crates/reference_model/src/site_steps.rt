@@ -10,7 +10,7 @@ use dots::{MOST_COUNT, MOST_LIVE, MOST_RUNS, Memory, SiteId};
 use replica::QueueList;
 use std::alloc::Global;
 
-// A site after a step, and what comes of it.
+// A site after a step, and the step's outcome.
 type After = (SiteKnowledge, Outcome);
 
 // Adds copies of operations at the end of `all`.
@@ -28,7 +28,7 @@ fn push_each(
     Ok(())
 }
 
-// The operations of `front`, and those of `back` behind them.
+// The operations of `front`, and those of `back` after them.
 fn joined(alloc: Global, front: &[Operation], back: &[Operation]) -> Result<Vec<Operation>, Memory>
     ensures { IfOk result
         (λ all. knowledge_of all.items ≡ knowledge_of front.now ++ knowledge_of back.now) }
@@ -137,8 +137,8 @@ fn take(alloc: Global, old: &SiteKnowledge, frame: &[Operation]) -> Result<After
     Ok((new, Outcome::Taken))
 }
 
-/// The site of this number, which has these queues, after a step, and what comes of it. The one fault is want of memory, and
-/// the site as it was is still there then.
+/// The site of this number, which has these queues, after a step, and the step's outcome. Fails only when out of memory, and
+/// leaves the site that is given as it was.
 pub fn after_step(
     alloc: Global,
     site: SiteId,

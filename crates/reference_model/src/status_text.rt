@@ -36,8 +36,8 @@ impl Queues for Known<'_> {
     }
 }
 
-/// The report of what the operations show (Asterisk's QueueStatus): the queues of the list, each with its totals and its
-/// members' rows, as far as the request doesn't leave them out. The one fault is want of memory.
+/// The report of what the operations show (Asterisk's QueueStatus): the queues of the list that the request selects,
+/// each with its totals and its members' rows. Fails only when out of memory.
 pub fn status(
     alloc: Global,
     operations: &[Operation],

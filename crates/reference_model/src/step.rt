@@ -1,6 +1,6 @@
 use crate::{Change, Operation};
 
-/// What may happen at a site.
+/// A step of a site.
 #[derive(Drop)]
 pub enum Step {
     /// The site does a command.

@@ -31,7 +31,7 @@ use Rattle.replica.specs.Keeping.{IsBelow}
 pub below_self : (d : DeltaState) → IsBelow d d
 below_self d = record { conditions = λ dot. condition_below_self (condition_of d.members dot); totals = λ site queue calls. omega arith }
 
--- and below all that is above one that it is below
+-- the order of deltas is transitive
 pub below_through : (d e f : DeltaState) → IsBelow d e → IsBelow e f → IsBelow d f
 below_through d e f p q = record {
   conditions = λ dot. condition_below_through (condition_of d.members dot) (condition_of e.members dot) (condition_of f.members dot) (p.conditions dot) (q.conditions dot);
@@ -58,7 +58,7 @@ below_joined e x f agree j = record {
   totals = λ site queue calls. omega (arith, number_joined e x f j site queue calls);
 }
 
--- so is the other
+-- the second of two deltas that agree is below their join
 pub other_below_joined : (e x f : DeltaState) → DeltasAgree e x → IsJoinOf e x f → IsBelow x f
 other_below_joined e x f agree j = record {
   conditions = λ dot. subst (IsConditionBelow (condition_of x.members dot)) (sym (j.members.conditions dot)) (conditions_least (condition_of e.members dot) (condition_of x.members dot) (agree dot)).second;
@@ -102,7 +102,7 @@ empty_below d e empty = record {
 pub unchanged_condition : (old new : DeltaState) → deltas.IsUnchanged old new → (dot : Dot) → condition_of new.members dot ≡ condition_of old.members dot
 unchanged_condition old new same dot = λ i. condition_at (map.get (same.members.live i) dot) (set.contains (same.members.known i) dot)
 
--- it is below that which it was, and the other way
+-- an unchanged delta is below the old one, and the old one is below it
 pub unchanged_below : (old new : DeltaState) → deltas.IsUnchanged old new → IsBelow old new × IsBelow new old
 unchanged_below old new same = (
   record {
@@ -136,7 +136,7 @@ newer_below (Some c) (Some d) z (inr less) newer = record {
       stamps_total.trans a.stamp d.stamp b.stamp (subst (λ (w : Entry _). stamp_cmp w.stamp d.stamp ≡ Less) is less) (newer.less d b refl f);
 }
 
--- so with fields
+-- what is newer than fields is newer than all fields below them
 fields_newer_below : (x y z : DotFields) → FieldsBelow x y → FieldsNewer y z → FieldsNewer x z
 fields_newer_below x y z p newer = record {
   penalty = newer_below x.penalty y.penalty z.penalty p.penalty newer.penalty;
@@ -210,7 +210,7 @@ room_below (Some (Live l k)) (Some (Live n g)) y p room m f e = by (room m f e)
 pub new_agrees : (e x : DeltaState) → IsNewTo e x → DeltasAgree e x
 new_agrees e x new dot = room_agrees (condition_of e.members dot) (condition_of x.members dot) (new.room dot)
 
--- and is new to all below that
+-- a change that is new to a delta is new to all deltas below it
 pub below_new : (d e x : DeltaState) → IsBelow d e → IsNewTo e x → IsNewTo d x
 below_new d e x p new = record { room = λ dot. room_below (condition_of d.members dot) (condition_of e.members dot) (condition_of x.members dot) (p.conditions dot) (new.room dot) }
 

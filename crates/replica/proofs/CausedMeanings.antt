@@ -46,7 +46,7 @@ module _ (names : List (List ℕ)) (k : Knowledge) where
   again_none (SetField queue interface setting) again none = again
   again_none (CountCall queue calls) again none = again
 
--- ---- what comes of a change
+-- ---- the meaning of a change
 
 -- a change is refused for its queue, or for its members, or the limits decide on the operation that it asks for
 data IsTold (site : ℕ) (names : List (List ℕ)) (k buffer : Knowledge) (change : Change) (meant : Meaning) : Type 0 where
@@ -71,7 +71,7 @@ module _ (site : ℕ) (names : List (List ℕ)) (k buffer : Knowledge) where
     none_there : dots_seen r.dots place interface ≡ [] → IsThere names k queue interface → ⊥
     none_there none there = true≢false (sym there.row ∙ ap is_some (none_seen k place interface none there.member (to there.member there.is_of)))
 
-    -- where one is seen, a member is there
+    -- if a dot is seen, a member is there
     one_there : (p : Dot × Member) (ps : List (Dot × Member)) → dots_seen r.dots place interface ≡ p ∷ ps → IsThere names k queue interface
     one_there p ps some = let t = seen_there k place interface p ps some in record { member = t.0; is_of = from t.0 t.1; row = t.2 }
 
@@ -105,7 +105,7 @@ module _ (site : ℕ) (names : List (List ℕ)) (k buffer : Knowledge) where
     }) refl
     told_absent q e (p ∷ ps) some = Again refl (one_there (Some queue) (Some q) interface (to_number names queue q interface e) (from_number names queue q interface e) p ps some)
 
-    -- what comes of an add
+    -- the meaning of an add
     told_add : IsTold site names k buffer (AddMember queue interface penalty paused label) (meaning site names r b (AddMember queue interface penalty paused label))
     told_add = by (number_of names queue) refl
       where
@@ -119,7 +119,7 @@ module _ (site : ℕ) (names : List (List ℕ)) (k buffer : Knowledge) where
     abbrev removed : ℕ → Operation
     removed q = remove_of (dots_seen r.dots (Some q) interface)
 
-    -- what comes of a remove
+    -- the meaning of a remove
     told_remove : IsTold site names k buffer (RemoveMember queue interface) (meaning site names r b (RemoveMember queue interface))
     told_remove = by (number_of names queue) refl
       where
@@ -135,7 +135,7 @@ module _ (site : ℕ) (names : List (List ℕ)) (k buffer : Knowledge) where
     abbrev written : ℕ → Operation
     written q = write_at site r setting (dots_seen r.dots (Some q) interface)
 
-    -- what comes of a setting in one queue
+    -- the meaning of a setting in one queue
     told_set : IsTold site names k buffer (SetField (Some queue) interface setting) (meaning site names r b (SetField (Some queue) interface setting))
     told_set = by (number_of names queue) refl
       where
@@ -151,7 +151,7 @@ module _ (site : ℕ) (names : List (List ℕ)) (k buffer : Knowledge) where
     abbrev counted : ℕ → Operation
     counted q = count_at site r q calls
 
-    -- what comes of a call
+    -- the meaning of a call
     told_count : IsTold site names k buffer (CountCall queue calls) (meaning site names r b (CountCall queue calls))
     told_count = by (number_of names queue) refl
       where
@@ -159,7 +159,7 @@ module _ (site : ℕ) (names : List (List ℕ)) (k buffer : Knowledge) where
         by None e = Unlisted refl e
         by (Some q) e = Asked (counted q) (record { asked = ap (option_map counted) e; listed = listed_at queue q e; not_again = λ h. h; for_some = λ h. h }) refl
 
-  -- what comes of each change
+  -- the meaning of each change
   told : (change : Change) → IsTold site names k buffer change (meaning site names r b change)
   told (AddMember queue interface penalty paused label) = told_add queue interface penalty paused label
   told (RemoveMember queue interface) = told_remove queue interface
@@ -181,7 +181,7 @@ module _ (site : ℕ) (names : List (List ℕ)) (k buffer : Knowledge) where
   fits_alone : (o : Operation) → (IsTooMuch r b o → ⊥) → is_too_long o ≡ false
   fits_alone o fits = false_from_ne_true (is_too_long o) (λ h. fits (inr (inr h)))
 
-  -- and what passes each test fits
+  -- an operation that passes each test fits
   fits_all : (o : Operation) → is_full r o ≡ false → is_full b o ≡ false → is_too_long o ≡ false → IsTooMuch r b o → ⊥
   fits_all o p q l (inl h) = true≢false (sym h ∙ p)
   fits_all o p q l (inr (inl h)) = true≢false (sym h ∙ q)
@@ -201,7 +201,7 @@ module _ (site : ℕ) (names : List (List ℕ)) (k buffer : Knowledge) where
         by false false false false true p q m n u = record { operation = o; asked = asked; fits = fits_all o p q m; numbers = n; past_total = u }
         by false false false false false p q m n u = record { asked = asked; fits = fits_all o p q m; numbers = n; total = u }
 
-    -- what comes of a change has its cause
+    -- the meaning of a change has its cause
     told_caused : (meant : Meaning) → IsTold site names k buffer change meant → IsCaused site names k buffer change meant
     told_caused meant (Unlisted e unlisted) = subst (IsCaused site names k buffer change) (sym e) unlisted
     told_caused meant (Again e again) = subst (IsCaused site names k buffer change) (sym e) again
@@ -219,7 +219,7 @@ module _ (site : ℕ) (names : List (List ℕ)) (k buffer : Knowledge) where
           one : Some p ≡ Some o → p ≡ o
           one h = cc
 
-      -- and what has its cause comes of the change
+      -- what has the cause of a meaning is the meaning of the change
       caused_told : (other : Meaning) → IsTold site names k buffer change meant → IsCaused site names k buffer change other → meant ≡ other
       caused_told (Refused NoSuchQueue) (Unlisted e unlisted) h = e
       caused_told (Refused NoSuchQueue) (Again e again) h = absurd (again_listed names k change again h)

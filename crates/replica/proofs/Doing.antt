@@ -1,4 +1,4 @@
--- What comes of a change is what is meant by the operation that it stands for.
+-- The result of a change is the meaning of the operation that it stands for.
 use Rattle.std.proofs.Common.{◌≡◌, ◌≤◌, ◌<◌, ◌⊎◌, inl, inr, ℕ, max, Bool, true, false, ◌||◌, [], ◌∷◌, Result, Ok, Err, refl, sym, subst, ◌∙◌, arith, nat_lt, true≢false, if◌then◌else◌}
 use Rattle.std.proofs.lemmas.Bool.Decides.{nat_tests}
 use Rattle.dots.specs.declared.limits.TheConstants.{MOST_LIVE, MOST_RUNS}
@@ -24,12 +24,12 @@ chosen : Bool → Bool → Bool → Bool → Bool → Operation → Meaning
 chosen full buffer_full too_long exhausted past_total o =
     if full || (buffer_full || too_long) then Refused MembersFull else if exhausted then Refused Exhausted else if past_total then Refused TotalFull else Makes o
 
--- it is made where all are false
+-- an operation is made if all tests are false
 made_where : (f b l e t : Bool) (o : Operation) → f ≡ false → b ≡ false → l ≡ false → e ≡ false → t ≡ false → chosen f b l e t o ≡ Makes o
 unfolding chosen
 made_where f b l e t o p q r s u = λ i. chosen (p i) (q i) (r i) (s i) (u i) o
 
--- it is full where one of the first is true
+-- the refusal is `MembersFull` if one of the first tests is true
 full_where : (f b l e t : Bool) (o : Operation) → (f ≡ true) ⊎ ((b ≡ true) ⊎ (l ≡ true)) → chosen f b l e t o ≡ Refused MembersFull
 unfolding chosen
 full_where true b l e t o h = refl
@@ -50,19 +50,19 @@ pub makes_it : (r buffer : SiteView) (o : Operation) → is_full r o ≡ false �
 unfolding chosen
 makes_it r buffer o p q l e t = made_where (is_full r o) (is_full buffer o) (is_too_long o) (is_exhausted o) (is_past_total o) o p q l e t
 
--- and one within the limits of live dots and runs, but past those of its numbers, is refused as exhausted
+-- an operation within the limits of live dots and runs, but past those of its numbers, is refused as exhausted
 pub exhausted_means : (r buffer : SiteView) (o : Operation) → is_full r o ≡ false → is_full buffer o ≡ false → is_too_long o ≡ false → is_exhausted o ≡ true
     → within_limits r buffer o ≡ Refused Exhausted
 unfolding chosen
 exhausted_means r buffer o p q l e = λ i. chosen (p i) (q i) (l i) (e i) (is_past_total o) o
 
--- or past those of totals
+-- an operation past the limit of totals is refused as full
 pub total_means : (r buffer : SiteView) (o : Operation) → is_full r o ≡ false → is_full buffer o ≡ false → is_too_long o ≡ false → is_exhausted o ≡ false → is_past_total o ≡ true
     → within_limits r buffer o ≡ Refused TotalFull
 unfolding chosen
 total_means r buffer o p q l e t = λ i. chosen (p i) (q i) (l i) (e i) (t i) o
 
--- an operation within the limit of totals may want memory, by these tests
+-- an operation within the limit of totals may run out of memory, by these tests
 wants : (f b l e t : Bool) (o : Operation) → t ≡ false → MayWantMemory (chosen f b l e t o)
 unfolding chosen
 wants true b l e t o h = tt
@@ -81,7 +81,7 @@ limits_want r buffer o h = wants (is_full r o) (is_full buffer o) (is_too_long o
 pub refused_done : (old new : SiteState) (m : Meaning) (r : Refusal) → m ≡ Refused r → IsUnchanged old new → IsDone old m new (Err r)
 refused_done old new m r e u = subst (λ m. IsDone old m new (Err r)) (sym e) (inl (refl, u))
 
--- want of memory may stand in place of what may want some
+-- out of memory may replace a meaning that may run out of it
 pub memory_done : (old new : SiteState) (m : Meaning) → MayWantMemory m → IsUnchanged old new → IsDone old m new (Err Memory)
 memory_done old new m w u = inr (u, refl, w)
 
@@ -164,7 +164,7 @@ module _ (old new : SiteState) (x : DeltaState) (o : Operation) (count time : �
       by (inr f) =
           refused_done old new meant MembersFull (full_means (view_of old old.state) (view_of old old.pending) o (inr (inl (too_full old old.pending x o limits_pending stands f)))) stay
 
-  -- what comes of the change is what is meant
+  -- the result of the change is that of its meaning
   pub made_done : (result : Result (Unit {0}) Refusal) → IsMade old x count time new result → IsDone old meant new result
   made_done (Ok u) made = taken made
   made_done (Err NoSuchQueue) made = absurd made.taken

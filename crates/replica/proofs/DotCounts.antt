@@ -51,7 +51,7 @@ pub runs_few : (s : Dots) → run_count s ≤ set.len s
 unfolding run_count
 runs_few s = within dots_total dots_exact (run_ends s) s (λ q h. (and_parts (set.contains s q) _ (sym (contains_run_ends s q) ∙ h)).0)
 
--- and at most as many dots as the list that it is made of
+-- a set has at most as many dots as the list that it is made of
 pub len_list : (dots : List Dot) → set.len (set.from_list {R = dot_cmp} dots) ≤ length dots
 len_list [] = omega (arith, set.len-empty dot_cmp)
 len_list (d ∷ ds) = at (set.contains (set.from_list ds) d) (set.len-insert dots_total (set.from_list ds) d) (len_list ds)
@@ -61,7 +61,7 @@ len_list (d ∷ ds) = at (set.contains (set.from_list ds) d) (set.len-insert dot
     at true e h = omega (arith, e, h)
     at false e h = omega (arith, e, h)
 
--- so few dots, with one more, make few runs
+-- few dots, with one more, make few runs
 pub runs_more : (dots : List Dot) (i : ℕ) (d : Dot) → length dots ≤ MOST_LIVE → i < length dots → run_count (set.insert (set.from_list (take i dots)) d) ≤ MOST_RUNS
 runs_more dots i d few here =
     let all = take i dots ++ d ∷ [] in

@@ -16,7 +16,7 @@ no_entry entry e = (cc)
 pub added_set : (stamp : Stamp) (penalty : ℕ) (pause : PauseState) (label : Label) → HasField (fields_added stamp penalty pause label)
 added_set stamp penalty pause label e = no_entry (record { stamp = stamp; value = penalty }) (ap (λ (f : DotFields). f.penalty) e)
 
--- so does a write
+-- a write sets a field
 pub written_set : (stamp : Stamp) (setting : Setting) → HasField (fields_written stamp setting)
 written_set stamp (SetPenalty penalty) e = no_entry (record { stamp = stamp; value = penalty }) (ap (λ (f : DotFields). f.penalty) e)
 written_set stamp (SetPause pause) e = no_entry (record { stamp = stamp; value = pause }) (ap (λ (f : DotFields). f.pause) e)

@@ -24,7 +24,7 @@ module _ {X : Type 0} (P : X → Type 0) where
   pub of_any : (xs : List X) → Any P xs → (x : X) × Contains xs x × P x
   of_any xs a = (a.1, (a.0, a.2, a.3), a.4)
 
-  -- it is found in what is left where it is found in all
+  -- a property that the first element lacks is found in the rest exactly where it is found in all
   pub none_yet : (x : X) (left rest all : List X) → left ≡ x ∷ rest → (P x → ⊥) → (Any P left ↔ Any P all) → Any P rest ↔ Any P all
   none_yet x left rest all step not_here found = (
     λ a. let e = of_any rest a in found.0 (any_of left e.0 (subst (λ xs. Contains xs e.0) (sym step) (later_in x rest e.0 e.1)) e.2),
@@ -34,7 +34,7 @@ module _ {X : Type 0} (P : X → Type 0) where
     ],
   )
 
-  -- it is found at the first of what is left
+  -- a property is found at the first element of the rest
   pub found_now : (x : X) (left rest all : List X) → left ≡ x ∷ rest → P x → (Any P left ↔ Any P all) → Any P all
   found_now x left rest all step here found = found.0 (any_of left x (subst (λ xs. Contains xs x) (sym step) (first_in x rest)) here)
 

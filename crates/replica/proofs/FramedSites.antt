@@ -17,7 +17,7 @@ use Rattle.replica.specs.Standing.{StandsFor}
 use Rattle.replica.specs.Steps.{Framed, NoNumber, Nothing, Outcome, SiteKnowledge, after_frame, cut}
 use Rattle.replica.proofs.StandingSites.{cut_stands, empty_buffer, equal_same, whole_stands}
 
--- what comes of a frame where no number is left
+-- the outcome of a frame where no number is left
 no_number : (s : SiteKnowledge) (frame buffer : Knowledge) → s.frames ≡ MOST_COUNT → after_frame s frame buffer ≡ (s, NoNumber)
 no_number s frame buffer most =
     ap (λ b. if b then (s, NoNumber) else (record { known = s.known; buffer = buffer; frames = suc s.frames }, Framed (suc s.frames) frame)) (past s.frames most)
@@ -25,7 +25,7 @@ no_number s frame buffer most =
     past : (n : ℕ) → n ≡ MOST_COUNT → nat_lt MOST_COUNT (suc n) ≡ true
     past n e = grind (arith, nat_tests)
 
--- and where one is
+-- the outcome of a frame where a number is left
 next_number : (s : SiteKnowledge) (frame buffer : Knowledge) → s.frames < MOST_COUNT
     → after_frame s frame buffer ≡ (record { known = s.known; buffer = buffer; frames = suc s.frames }, Framed (suc s.frames) frame)
 next_number s frame buffer few =
@@ -34,7 +34,7 @@ next_number s frame buffer few =
     within : (n : ℕ) → n < MOST_COUNT → nat_lt MOST_COUNT (suc n) ≡ false
     within n h = grind (arith, nat_tests)
 
--- a site and what comes of a step
+-- a site after a step, and the step's outcome
 abbrev After : Type 0
 After = SiteKnowledge × Outcome
 
@@ -52,17 +52,17 @@ in_ranges n frame some few queues within = record {
     at : (q : ℕ) → q < n → q < QUEUES
     at q h = omega arith
 
--- so is a site's next frame, of a delta of its queues
+-- a site's next frame, of a delta of its queues, is in the ranges of the format
 pub next_in_ranges : (s : SiteState) (d : DeltaState) → AreQueues s.names → s.frames < MOST_COUNT → AreInQueues (length s.names) d → IsInRanges (frame_of s.site (suc s.frames) d)
 next_in_ranges s d queues left within = in_ranges (length s.names) (frame_of s.site (suc s.frames) d) (omega arith) (omega (arith, left)) queues.few within
 
 -- ---- cuts
 
--- nothing comes of a cut of an empty buffer
+-- a cut of an empty buffer makes nothing
 pub nothing_cut : (state : SiteState) (s : SiteKnowledge) → StandsFor state s → IsEmpty state.pending → cut s s.buffer ≡ (s, Nothing)
 nothing_cut state s stands empty = ap (cut s) ((empty_buffer state s stands).0 empty)
 
--- so the site stands for what it stood for
+-- after a cut of an empty buffer the site stands for what it stood for
 pub nothing_means : (old now : SiteState) (s : SiteKnowledge) → old ≡ now → StandsFor now s → IsEmpty old.pending → StandsFor now (cut s s.buffer).0 × ((cut s s.buffer).1 ≡ Nothing)
 nothing_means old now s e stands empty =
     subst (λ (a : After). StandsFor now a.0 × (a.1 ≡ Nothing)) (sym (nothing_cut now s stands (subst (λ (r : SiteState). IsEmpty r.pending) e empty))) (stands, refl)
@@ -72,18 +72,18 @@ cut_some : (s : SiteKnowledge) (buffer : Knowledge) → (buffer ≡ [] → ⊥) 
 cut_some s [] some = absurd (some refl)
 cut_some s (o ∷ os) some = refl
 
--- it is refused where no number is left
+-- a cut of a buffer that isn't empty is refused if no number is left
 pub cut_refused : (state : SiteState) (s : SiteKnowledge) → StandsFor state s → (IsEmpty state.pending → ⊥) → state.frames ≡ MOST_COUNT → cut s s.buffer ≡ (s, NoNumber)
 cut_refused state s stands some most = cut_some s s.buffer (λ none. some ((empty_buffer state s stands).1 none)) ∙ no_number s s.buffer [] (stands.frames ∙ most)
 
--- so the site stands for what it stood for
+-- after a refused cut the site stands for what it stood for
 pub cut_exhausted : (old now : SiteState) (s : SiteKnowledge) → old ≡ now → StandsFor now s → (IsEmpty old.pending → ⊥) → old.frames ≡ MOST_COUNT
     → StandsFor now (cut s s.buffer).0 × ((cut s s.buffer).1 ≡ NoNumber)
 cut_exhausted old now s e stands some most =
     let here = subst (λ (r : SiteState). StandsFor r s) (sym e) stands in
     subst (λ (a : After). StandsFor now a.0 × (a.1 ≡ NoNumber)) (sym (cut_refused old s here some most)) (stands, refl)
 
--- else it gives a frame
+-- a cut of a buffer that isn't empty gives a frame if a number is left
 pub cut_means : (old now new : SiteState) (frame : Frame) (s : SiteKnowledge) → old ≡ now → StandsFor now s → (IsEmpty old.pending → ⊥) → old.frames < MOST_COUNT → HasCut old frame new
     → StandsFor new (cut s s.buffer).0 × IsFramed frame (cut s s.buffer).1
 cut_means old now new frame s e stands some few has =
@@ -104,7 +104,7 @@ cut_means old now new frame s e stands some few has =
 pub whole_refused : (state : SiteState) (s : SiteKnowledge) → StandsFor state s → state.frames ≡ MOST_COUNT → after_frame s s.known s.buffer ≡ (s, NoNumber)
 whole_refused state s stands most = no_number s s.known s.buffer (stands.frames ∙ most)
 
--- and made where one is
+-- a frame of everything is made if a number is left
 pub whole_means : (old now new : SiteState) (frame : Frame) (s : SiteKnowledge) → old ≡ now → StandsFor now s → old.frames < MOST_COUNT → HasCopied old frame new
     → StandsFor new (after_frame s s.known s.buffer).0 × IsFramed frame (after_frame s s.known s.buffer).1
 whole_means old now new frame s e stands few has =

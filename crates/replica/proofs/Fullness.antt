@@ -113,11 +113,11 @@ module _ (s : SiteState) (d : DeltaState) where
         known_change : (q : Dot) → set.contains x.members.known q ≡ (asserts q o || names q o)
         known_change q = ap (λ k. set.contains k q) stands.dots ∙ known_dot (o ∷ []) q ∙ (λ i. or-false (asserts q o) i || or-false (names q o) i)
 
-    -- and what is known is known to either
+    -- the dots that are known with one more operation are known to either delta
     pub known_joined : known_with (view_of s d) o ≡ set.union d.members.known x.members.known
     known_joined = known_with_is o ∙ ap (set.union d.members.known) (sym stands.dots)
 
-    -- so a site is full where the join is too great
+    -- a site is full exactly where the join is too large
     pub full_joined : is_full (view_of s d) o ≡ (nat_lt MOST_LIVE (cells_joined d.members x.members) || nat_lt MOST_RUNS (runs_joined d.members x.members))
     full_joined = λ i. is_past_limits (visible_joined i) (known_joined i)
 
@@ -128,7 +128,7 @@ too_long_change x o stands = ap (λ k. nat_lt MOST_RUNS (run_count k)) (sym stan
 -- ---- older dots
 
 module _ (s : SiteState) (d : DeltaState) where
-  -- which dots are dead and older
+  -- which dots are among the older dead ones
   pub contains_older : (given : List Dot) (q : Dot) → set.contains (older_dots (view_of s d) given) q
       ≡ (set.contains d.members.known q && (not (map.contains_key d.members.live q) && is_older given q))
   unfolding older_dots
@@ -161,14 +161,14 @@ module _ (s : SiteState) (d : DeltaState) where
       none true false = refl
       none false n = refl
 
-  -- so a dot is none of those that are older than it
+  -- a dot is none of those that are older than it
   pub older_new : (dot : Dot) → set.contains (older_dots (view_of s d) (dot ∷ [])) dot ≡ false
   older_new dot = older_than_given (dot ∷ []) dot (itself dot.site dot.count)
     where
       itself : (t c : ℕ) → ((nat_eq t t && nat_lt c c) || false) ≡ false
       itself t c = grind (arith, nat_tests)
 
-  -- and a live dot is none of the older ones
+  -- a live dot is none of the older dead ones
   pub older_live : (given : List Dot) (q : Dot) → map.contains_key d.members.live q ≡ true → set.contains (older_dots (view_of s d) given) q ≡ false
   older_live given q h =
       contains_older given q ∙ ap (λ b. set.contains d.members.known q && (not b && is_older given q)) h ∙ and-false (set.contains d.members.known q)
@@ -249,7 +249,7 @@ new_all t (x ∷ xs) apart none = (
     later (y ∷ ys) h = ap (λ b. b || list_any (is_dot x) ys) h.0 ∙ later ys h.1
 
 module _ (s : SiteState) (d : DeltaState) where
-  -- which live dots are not among others
+  -- which dots are among the live ones without others
   pub contains_without : (others : Dots) (q : Dot) → set.contains (live_dots_without d.members others) q
       ≡ (map.contains_key d.members.live q && not (set.contains others q))
   unfolding live_dots_without
@@ -356,7 +356,7 @@ module _ (s : SiteState) (d : DeltaState) where
         ∙ sym (contains_add (live_dots_without d.members seen) its_dots q
         ∙ (λ i. any_map (is_dot q) (λ p. p.0) ps i || (contains_without seen q ∙ ap (λ b. map.contains_key d.members.live q && not b) (contains_seen q)) i)))
 
-    -- as many as there are of both
+    -- the number of visible dots after a write
     pub len_write_visible : set.len (visible_with (view_of s d) written) ≡ set.len (live_dots_without d.members seen) + length ps
     len_write_visible =
         ap set.len visible_write
@@ -386,18 +386,18 @@ module _ (s : SiteState) (d : DeltaState) where
     count_bools true false = refl
     count_bools false k = refl
 
-    -- the same dots are visible
+    -- the same dots are visible after a count
     pub visible_count : visible_with (view_of s d) counted ≡ (view_of s d).dots.visible
     visible_count = set.same_set dots_total dots_exact _ _ (λ q.
         contains_visible_with s d counted q
         ∙ (λ i. (map.contains_key d.members.live q || false) && not ((set.contains d.members.known q && not (map.contains_key d.members.live q)) || set.contains-empty dot_cmp q i))
         ∙ count_bools (map.contains_key d.members.live q) (set.contains d.members.known q) ∙ sym (visible_live s d q))
 
-    -- and the same known
+    -- the same dots are known after a count
     pub known_with_count : known_with (view_of s d) counted ≡ (view_of s d).known
     known_with_count = known_with_is s d counted ∙ ap (set.union d.members.known) (known_count site queue calls total) ∙ union_empty d.members.known
 
-    -- so it isn't full for a count
+    -- a delta isn't full for a count
     pub full_count : IsWithinLimits d.members → is_full (view_of s d) counted ≡ false
     full_count limits =
         full_counts s d counted (map.len d.members.live) (run_count d.members.known) (ap set.len visible_count ∙ len_of_keys d.members.live (view_of s d).dots.visible (visible_live s d)) (ap run_count known_with_count)

@@ -36,7 +36,7 @@ through p q = (λ a. q.0 (p.0 a), λ c. p.1 (q.1 c))
 live_found : (P : Holding → Type 0) (members : Members) (dot : Dot) (held : Holding) → map.get members.live dot ≡ Some held → P held → Any (λ (e : Dot × Holding). P e.1) (map.entries members.live)
 live_found P members dot held live p = any_of (λ (e : Dot × Holding). P e.1) (map.entries members.live) (dot, held) (entry_in dot_cmp dots_total one_dot members.live dot held live) p
 
--- and what is found there is live
+-- an entry that is found is of a live dot
 found_live : (P : Holding → Type 0) (members : Members) → Any (λ (e : Dot × Holding). P e.1) (map.entries members.live) → (e : Dot × Holding) × (map.get members.live e.0 ≡ Some e.1) × P e.1
 found_live P members a = let e = of_any (λ (e : Dot × Holding). P e.1) (map.entries members.live) a in (e.0, entry_is dot_cmp dots_total members.live e.0 e.1, e.2)
 
@@ -122,7 +122,7 @@ total_past site own entries = (
 run_has : (dot : Dot) (r : Run) → in_run dot r ≡ true → (r.site ≡ dot.site) × (dot.count ≤ r.last)
 run_has dot r h = grind (arith, nat_tests)
 
--- and it has its last dot
+-- a run has its last dot
 last_in : (r : Run) (site : ℕ) → r.site ≡ site → r.first ≤ r.last → in_run (record { site = site; count = r.last }) r ≡ true
 last_in r site e h = grind (arith, nat_tests)
 
@@ -152,7 +152,7 @@ dot_past site last runs dots is limits = (
 pub first_holds : {A B : Type 0} (b : Bool) → A → b ≡ true → IsTrue b ↔ (A ⊎ B)
 first_holds b a h = (λ t. inl a, λ either. h)
 
--- and the second one does where it doesn't
+-- the second of two tests decides both if the first fails
 pub second_tells : {A B : Type 0} (b : Bool) → (A → ⊥) → (IsTrue b ↔ B) → IsTrue b ↔ (A ⊎ B)
 second_tells b not_first tells = (λ t. inr (tells.0 t), λ either. elim either [ inl a ↦ absurd (not_first a) | inr r ↦ tells.1 r ])
 
@@ -166,7 +166,7 @@ member_test b site count time p q r m n e f g h tells =
     subst (λ x. IsTrue b ↔ HasMemberPast p q r x) h (subst (λ x. IsTrue b ↔ HasMemberPast p q x m) g
     (subst (λ x. IsTrue b ↔ HasMemberPast p x time m) f (subst (λ x. IsTrue b ↔ HasMemberPast x count time m) e tells)))
 
--- and one of totals
+-- a test of totals at equal numbers and equal totals
 pub total_test : (b : Bool) (site p : ℕ) (own mine entries others : Entries) → site ≡ p → own ≡ mine → entries ≡ others → (IsTrue b ↔ HasTotalPast site own entries) → IsTrue b ↔ HasTotalPast p mine others
 total_test b site p own mine entries others e f g tells =
     subst (λ x. IsTrue b ↔ HasTotalPast p mine x) g (subst (λ x. IsTrue b ↔ HasTotalPast p x entries) f (subst (λ x. IsTrue b ↔ HasTotalPast x own entries) e tells))

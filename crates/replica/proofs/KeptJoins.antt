@@ -126,7 +126,7 @@ stamps_joined site last d x e p q j =
       ring = written_joined site last f.ring g.ring here.ring there.ring;
     }) d x e (record { each = p }) (record { each = q }) j).each
 
--- and up to any later time
+-- own stamps up to a time are up to any later time
 pub stamps_later : (site last more : ℕ) (d : DeltaState) → last ≤ more → HasOwnStamps site last d → HasOwnStamps site more d
 stamps_later site last more d le p dot h live = let w = p dot h live in record {
   penalty = λ entry is. omega (arith, w.penalty entry is);
@@ -135,7 +135,7 @@ stamps_later site last more d le p dot h live = let w = p dot h live in record {
   ring = λ entry is. omega (arith, w.ring entry is);
 }
 
--- those of a delta that says the same
+-- the own stamps of a delta that says the same are up to the same time
 pub stamps_unchanged : (site last : ℕ) (old new : DeltaState) → HasOwnStamps site last old → deltas.IsUnchanged old new → HasOwnStamps site last new
 stamps_unchanged site last old new p same dot h live = p dot h (ap (λ l. map.get l dot) (sym same.members.live) ∙ live)
 
@@ -164,7 +164,7 @@ next_test : (count last : ℕ) (b : Bool) → (b ≡ true → count ≤ suc last
 next_test count last true le is = let h = le refl in grind (arith, nat_tests)
 next_test count last false le is = let not_next : count ≢ suc last = λ e. absurd (cc (is e)) in grind (arith, nat_tests)
 
--- and with one that knows the next dot, and no later ones, there is one more
+-- the join with a delta that knows the next own dot, and no later ones, has one more own dot
 pub dots_joined_next : (site last : ℕ) (d x e : DeltaState) → HasOwnDots site last d → set.contains x.members.known (record { site = site; count = suc last }) ≡ true → KnowsUpTo site (suc last) x
     → IsJoinOf d x e → HasOwnDots site (suc last) e
 dots_joined_next site last d x e own next knows j count some =
@@ -172,7 +172,7 @@ dots_joined_next site last d x e own next knows j count some =
     ∙ next_test count last (set.contains x.members.known (record { site = site; count = count })) (knows.counts count some)
     (λ is. ap (λ n. set.contains x.members.known (record { site = site; count = n })) is ∙ next)
 
--- those of a delta that says the same
+-- the own dots of a delta that says the same are up to the same count
 pub dots_unchanged : (site last : ℕ) (old new : DeltaState) → HasOwnDots site last old → deltas.IsUnchanged old new → HasOwnDots site last new
 dots_unchanged site last old new own same count some = ap (λ k. set.contains k (record { site = site; count = count })) same.members.known ∙ own count some
 

@@ -87,7 +87,7 @@ changed_kept s x state pending count time kept change j k = record {
   frames = kept.frames;
 }
 
--- and so do deltas that say the same
+-- deltas that say the same keep a site's invariant
 pub unchanged_kept : (s : SiteState) (state pending : DeltaState) → IsKept s → IsUnchanged s.state state → IsUnchanged s.pending pending
     → IsKept (record { site = s.site; names = s.names; state = state; pending = pending; last_count = s.last_count; last_time = s.last_time; frames = s.frames })
 unchanged_kept s state pending kept u v = record {

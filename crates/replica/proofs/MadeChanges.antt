@@ -57,7 +57,7 @@ field_alone {T} field o dot = by (if asserts dot o then field o else None)
     by None = refl
     by (Some e) = refl
 
--- and what it sets of it on a dot that it asserts
+-- the field that one operation sets on a dot that it asserts
 pub field_asserted : {T : Type 0} (field : Field T) (o : Operation) (dot : Dot) → asserts dot o ≡ true → field_of field (o ∷ []) dot ≡ field o
 field_asserted field o dot h = field_alone field o dot ∙ ap (λ b. if b then field o else None) h
 
@@ -103,7 +103,7 @@ module _ (o : Operation) (ps : Pairs) (older : Dots) (fields : DotFields) (asser
       is : asserts q o ≡ true
       is = ap (list_any (λ p. is_dot q p.0)) asserted ∙ h
 
-  -- which dots it asserts or names
+  -- the dots that an operation asserts or names
   known_here : (q : Dot) → set.contains all q ≡ (asserts_it q || set.contains older q)
   known_here q = set.contains-union dots_total (set.from_list (each (λ p. p.0) ps)) older q
       ∙ ap (λ b. b || set.contains older q) (set.contains-from_list dots_total (each (λ p. p.0) ps) q ∙ any_map (is_dot q) (λ p. p.0) ps)
@@ -122,7 +122,7 @@ module _ (o : Operation) (ps : Pairs) (older : Dots) (fields : DotFields) (asser
   by q (Some p) true false f e alive same = ap (λ g. Some (Live p.1 g)) (sym (same refl))
   by q (Some p) false n f e alive same = absurd (cc)
 
-  -- it names no dot that it asserts
+  -- an operation names no dot that it asserts
   not_named : (q : Dot) → asserts_it q ≡ true → set.contains older q ≡ false
   not_named q h =
       let p = in_any (λ p. is_dot q p.0) ps h in
@@ -250,7 +250,7 @@ said site queue calls n s q = at calls (nat_eq site s) (nat_eq queue q)
     at Abandoned true false = by_numbers _ _ (omega arith) (omega arith)
     at Abandoned false b = by_numbers _ _ (omega arith) (omega arith)
 
--- they have no entry of two zeros
+-- the totals of a count have no entry of two zeros
 counted_not_zero : (site queue : ℕ) (calls : Calls) (n : ℕ) → 1 ≤ n → (key : Key) (totals : CallTotals) → map.get (counted site queue calls n) key ≡ Some totals
     → is_zero totals ≡ false
 counted_not_zero site queue calls n h key totals e = at (is_key key (record { site = site; queue = queue })) (sym (get_counted site queue calls n h key) ∙ e)

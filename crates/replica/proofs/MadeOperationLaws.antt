@@ -43,7 +43,7 @@ module _ (k : Knowledge) where
       let found = any_in (is_dot dot) dots dot (in_paired own dots (dot, member) here) (same_itself dot) in
       (of_member (dot_view k) own dot found).member ∙ ap Some (sym (paired_with own dots (dot, member) here))
 
-  -- where none is seen, none is visible with that member
+  -- if no dot is seen, none is visible with that member
   absent_where : (q : ℕ) (interface : List ℕ) → dots_seen (dot_view k) (Some q) interface ≡ [] → (dot : Dot) → set.contains (visible_dots k) dot ≡ true
       → member_of k dot ≡ Some (record { queue = q; interface = interface }) → ⊥
   absent_where q interface none dot visible is =

@@ -20,7 +20,7 @@ use Rattle.dots.specs.declared.limits.TheConstants.{QUEUES}
 use Rattle.dots.specs.Values.{IsName}
 use Rattle.replica.specs.Queues.{AreDistinct, AreQueues}
 
--- `==` of two names tells whether their bytes are the same
+-- `==` of two names decides whether their bytes are the same
 pub same_names : (a b : List ℕ) → Decides (pointwise nat_eq a b) (a ≡ b)
 same_names a b = slice_eq-Decides Decides-eqb a b (pointwise nat_eq a b) refl
 
@@ -41,7 +41,7 @@ distinct_before {K} {eq} laws x (y ∷ xs) ys h =
     let apart = fails_later eq y x xs ys (IsDistinct-head eq y (xs ++ x ∷ ys) h) in
     (λ i. (laws.symm x y ∙ apart) i || list_any (eq x) xs) ∙ distinct_before laws x xs ys (IsDistinct-tail eq y (xs ++ x ∷ ys) h)
 
--- what the loop over the names keeps: those so far are held in their order, and are distinct
+-- what the loop over the names keeps: those so far are held in order, and are distinct
 pub record HoldsNames (held front : List (List ℕ)) : Type 0 where
   pub same : held ≡ front
   pub distinct : IsDistinct (pointwise nat_eq) held

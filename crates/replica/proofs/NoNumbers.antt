@@ -89,7 +89,7 @@ module _ (s : SiteState) (kept : IsKept s) (limits : IsWithinLimits s.state.memb
   abbrev dead : set.FinSet dot_cmp
   dead = dead_dots_of s.state.members s.site
 
-  -- they are the older ones
+  -- the dead dots of the site are the older ones
   older-are : older_dots (view_of s s.state) (next ∷ []) ≡ dead
   older-are = older_dead s s.state s.site s.last_count (own_counts s kept)
 
@@ -115,7 +115,7 @@ module _ (s : SiteState) (kept : IsKept s) (limits : IsWithinLimits s.state.memb
       too_long_add next member stamp_next penalty pause_next label (older_dots (view_of s s.state) (next ∷ []))
       ∙ (λ i. nat_lt MOST_RUNS (run_count (set.insert ((older-are ∙ sym (union_same dead)) i) next)))
 
-  -- so the state and the buffer tell whether they are full
+  -- the tests of the state and the buffer decide whether they are full
   pub full_state : is_full (view_of s s.state) added
       ≡ (nat_lt MOST_LIVE (set.len (live_dots_without s.state.members dead) + 1) || nat_lt MOST_RUNS (run_count (set.insert (set.union s.state.members.known dead) next)))
   full_state = full_next s.state limits (own_unknown s kept)
@@ -125,7 +125,7 @@ module _ (s : SiteState) (kept : IsKept s) (limits : IsWithinLimits s.state.memb
   full_pending = full_next s.pending limits_pending
       (false_from_ne_true _ (λ h. true≢false (sym (below_known s.pending s.state kept.below limits next h) ∙ own_unknown s kept)))
 
-  -- and dead dots of too many runs alone are too many with the next
+  -- dead dots that alone have too many runs have too many with the next dot
   pub dead_too_long : MOST_RUNS < run_count dead → is_too_long added ≡ true
   dead_too_long many =
       too_long_add next member stamp_next penalty pause_next label (older_dots (view_of s s.state) (next ∷ []))
@@ -143,7 +143,7 @@ module _ (s : SiteState) (kept : IsKept s) (limits : IsWithinLimits s.state.memb
 
 -- ---- an add for which no number is left
 
--- what is told of one
+-- the refusal of an operation for which a delta is full
 pub told_full : (s : SiteState) (o : Operation) → (is_full (view_of s s.state) o ≡ true) ⊎ ((is_full (view_of s s.pending) o ≡ true) ⊎ (is_too_long o ≡ true)) → IsToldOf s o MembersFull
 told_full s o h = inr (full_means (view_of s s.state) (view_of s s.pending) o h)
 
@@ -204,14 +204,14 @@ module _ (s : SiteState) (kept : IsKept s) (queue : Option ℕ) (interface : Lis
       ≡ (nat_lt MOST_LIVE (set.len (live_dots_without s.pending.members seen) + length its_dots) || nat_lt MOST_RUNS (run_count (set.insert (set.union s.pending.members.known seen) first)))
   full_pending_written = full_written s.pending (λ p h. not_dead_below s.pending s.state kept.below p.0 (seen_live s s.state queue interface p h))
 
-  -- and whether it is too long alone
+  -- whether a write is too long alone
   pub long_written : is_too_long written ≡ nat_lt MOST_RUNS (run_count seen)
   long_written = too_long_write pairs setting stamp_of (older_dots (view_of s s.state) its_dots) seen (seen_older s s.state its_dots)
 
--- ---- what is told of all adds and all writes
+-- ---- the refusal of all adds and all writes
 
 module _ (s : SiteState) (kept : IsKept s) (limits : IsWithinLimits s.state.members) where
-  -- dead dots of too many runs tell of an add that it is full
+  -- with dead dots of too many runs each add is refused as full
   pub adds_long : IsWithinLimits s.pending.members → MOST_RUNS < run_count (dead_dots_of s.state.members s.site) → IsToldOfAdds s MembersFull
   adds_long limits_pending many member penalty paused label e =
       told_full s _ (inr (inr (dead_too_long s kept limits limits_pending member penalty paused label many)))
@@ -235,11 +235,11 @@ module _ (s : SiteState) (kept : IsKept s) (limits : IsWithinLimits s.state.memb
     pub adds_full : is_past_with s.state dots 1 (record { site = s.site; count = count }) ≡ true → IsToldOfAdds s MembersFull
     adds_full is member penalty paused label e = told_full s _ (inl (full_state s kept limits limits_pending member penalty paused label ∙ sym (same_test s.state) ∙ is))
 
-    -- where that of the buffer is
+    -- if the test of the buffer is true, the site is full
     pub adds_full_pending : is_past_with s.pending dots 1 (record { site = s.site; count = count }) ≡ true → IsToldOfAdds s MembersFull
     adds_full_pending is member penalty paused label e = told_full s _ (inr (inl (full_pending s kept limits limits_pending member penalty paused label ∙ sym (same_test s.pending) ∙ is)))
 
-    -- where that of the dead dots alone is
+    -- if the test of the dead dots alone is true, the site is full
     pub adds_too_long : MOST_RUNS < run_count (set.insert (set.union dots dots) (record { site = s.site; count = count })) → IsToldOfAdds s MembersFull
     adds_too_long many member penalty paused label e =
         told_full s _ (inr (inr (long_next s kept limits limits_pending member penalty paused label ∙ ap (nat_lt MOST_RUNS) (sym same_runs_test) ∙ test (run_count (set.insert (set.union dots dots) (record { site = s.site; count = count }))) many)))
@@ -247,7 +247,7 @@ module _ (s : SiteState) (kept : IsKept s) (limits : IsWithinLimits s.state.memb
         test : (n : ℕ) → MOST_RUNS < n → nat_lt MOST_RUNS n ≡ true
         test n h = grind (arith, nat_tests)
 
-    -- and where none is, its numbers are used up
+    -- if no test is true, the numbers of the site are used up
     pub adds_exhausted : is_past_with s.state dots 1 (record { site = s.site; count = count }) ≡ false → is_past_with s.pending dots 1 (record { site = s.site; count = count }) ≡ false
         → (MOST_RUNS < run_count (set.insert (set.union dots dots) (record { site = s.site; count = count })) → ⊥) → IsToldOfAdds s Exhausted
     adds_exhausted p q few member penalty paused label e =
@@ -258,7 +258,7 @@ module _ (s : SiteState) (kept : IsKept s) (limits : IsWithinLimits s.state.memb
         test : (n : ℕ) → (MOST_RUNS < n → ⊥) → nat_lt MOST_RUNS n ≡ false
         test n h = grind (arith, nat_tests)
 
--- memory may be wanting for all
+-- all may be refused as out of memory
 pub adds_memory : (s : SiteState) → IsToldOfAdds s Memory
 adds_memory s member penalty paused label e = inl refl
 
@@ -266,7 +266,7 @@ pub writes_memory : (s : SiteState) (dots : List Dot) → IsToldOfWrites s dots 
 writes_memory s dots queue interface setting are e = inl refl
 
 module _ (s : SiteState) (kept : IsKept s) (dots : List Dot) where
-  -- given dots that with the older ones have too many runs tell of a write that it is full
+  -- with dots that make too many runs together with the older ones each write is refused as full
   pub writes_long : MOST_RUNS < run_count (dots_seen_below s.state.members dots) → IsToldOfWrites s dots MembersFull
   writes_long many queue interface setting are e =
       told_full s _ (inr (inr (long_written s kept queue interface setting ∙ test (run_count (seen s kept queue interface setting)) (subst (λ ds. MOST_RUNS < run_count (dots_seen_below s.state.members ds)) are many))))

@@ -29,7 +29,7 @@ module _ (r s : DotView) (member : Member) where
       (λ h. to_member s member q (to q (of_member r member q h)))
       (λ h. to_member r member q (from q (of_member s member q h))))
 
-  -- and the same row, where those have the same fields too
+  -- a member has the same row if its dots are the same and have the same fields
   pub same_row : dots_of r member ≡ dots_of s member → ((q : Dot) → Contains (dots_of r member) q → r.fields q ≡ s.fields q) → row_of r member ≡ row_of s member
   same_row dots fields = λ i. row_if (dots i) (row_of_fields (record {
     penalty = same (λ f. f.penalty) i;
@@ -56,15 +56,15 @@ module _ (r : DotView) (member : Member) where
       by [] e = e
       by (q ∷ qs) e = absurd (none q (of_member r member q (ap (list_any (is_dot q)) e ∙ ap (λ b. b || list_any (is_dot q) qs) (same_itself q))))
 
-  -- where it has none, none is its own
+  -- if a member has no dots, none is its own
   pub none_own : dots_of r member ≡ [] → (q : Dot) → IsOwn r member q → ⊥
   none_own none q own = true≢false (sym (to_member r member q own) ∙ ap (list_any (is_dot q)) none)
 
-  -- and it has no row
+  -- if a member has no dots, it has no row
   pub no_row : dots_of r member ≡ [] → row_of r member ≡ None
   no_row none = ap (λ dots. row_if dots (row_of_fields (member_fields r member))) none
 
-  -- where it has one dot, its row shows the fields of that
+  -- if a member has one dot, its row shows the fields of that
   pub lone_row : (dot : Dot) → dots_of r member ≡ dot ∷ [] → row_of r member ≡ Some (row_of_fields (r.fields dot))
   lone_row dot lone = λ i. row_if (lone i) (row_of_fields (record {
     penalty = of_one (λ f. f.penalty) i;
@@ -91,7 +91,7 @@ module _ (o : Operation) (k : Knowledge) (q : Dot) where
       by None none = refl
       by (Some m) none = absurd (true≢false none)
 
-  -- and so it has where all that the operation asserts have the members that they had
+  -- a dot keeps its member if all dots that the operation asserts keep theirs
   pub member_kept : ((p : Dot × Member) → Contains (asserted_by o) p → member_of k p.0 ≡ Some p.1) → member_of (o ∷ k) q ≡ member_of k q
   member_kept same = member_both (o ∷ []) k q ∙ by (member_of (o ∷ []) q) refl
     where
@@ -99,7 +99,7 @@ module _ (o : Operation) (k : Knowledge) (q : Dot) where
       by None e = refl
       by (Some m) e = sym (same (q, m) (subst (λ ps. Contains ps (q, m)) (append-nil (asserted_by o)) (member_in (o ∷ []) q m e)))
 
-  -- where it asserts it, a field is the later one of what the operation sets and what it was
+  -- if the operation asserts a dot, a field is the later one of what the operation sets and what it was
   pub field_said : {T : Type 0} (field : Field T) → asserts q o ≡ true → field_of field (o ∷ k) q ≡ join_of (field o) (field_of field k q)
   field_said field h = field_both field (o ∷ []) k q ∙ ap (λ x. join_of x (field_of field k q)) (field_asserted field o q h)
 

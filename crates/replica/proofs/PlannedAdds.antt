@@ -68,7 +68,7 @@ used_up n none = by (nat_lt MOST_COUNT (suc n)) refl
     by true e = e
     by false e = absurd (none (omega arith, within n e))
 
--- and not where it is one
+-- a number that is a count isn't past the greatest
 pub not_used_up : (n : ℕ) → IsCount n → is_used_up n ≡ false
 not_used_up n count = by n count.1
   where
@@ -110,7 +110,7 @@ module _ (s : SiteState) (kept : IsKept s) (limits : IsWithinLimits s.state.memb
       by [] e here = nothing_in present.dot here
       by (d ∷ ds) e here = (cc)
 
-  -- so the add of it is refused
+  -- the add of a member that is there is refused
   pub add_there : IsPresent s.state.members member → meant ≡ Refused AlreadyThere
   add_there present = add_means ∙ seen_there its_dots _ (present_dots present)
 
@@ -127,15 +127,15 @@ module _ (s : SiteState) (kept : IsKept s) (limits : IsWithinLimits s.state.memb
           absurd (absent (record { dot = p.0; fields = g.0; live = g.1 ∙ ap (λ m. let h : Holding = (m, g.0) in Some h) same }))
 
   module _ (absent : IsPresent s.state.members member → ⊥) where
-    -- so the add of it means the next dot, within the limits
+    -- the add of a member that isn't there means the next dot, within the limits
     means_next : meant ≡ within_limits (view_of s s.state) (view_of s s.pending) adding
     means_next = add_means ∙ ap (λ ds. where_absent ds (within_limits (view_of s s.state) (view_of s s.pending) adding)) (absent_dots absent)
 
-    -- for which memory may be wanting
+    -- an add may run out of memory
     pub add_wants : MayWantMemory meant
     add_wants = subst MayWantMemory (sym means_next) (limits_want (view_of s s.state) (view_of s s.pending) adding refl)
 
-    -- what is told of adds is told of it
+    -- the refusal of all adds is that of this one
     pub add_told : (refusal : Refusal) → IsToldOfAdds s refusal → is_exhausted adding ≡ true → IsUnplanned meant refusal
     add_told refusal told exhausted = by (told member penalty paused label exhausted)
       where
@@ -143,7 +143,7 @@ module _ (s : SiteState) (kept : IsKept s) (limits : IsWithinLimits s.state.memb
         by (inl e) = inl (e, add_wants)
         by (inr e) = inr (means_next ∙ e)
 
-    -- a context of too many runs is told of
+    -- a context of too many runs gives this refusal
     pub add_long : MOST_RUNS < run_count (dots_seen_below s.state.members (next ∷ [])) → meant ≡ Refused MembersFull
     add_long many = means_next ∙ full_means (view_of s s.state) (view_of s s.pending) adding (inr (inr
         (ap (λ k. nat_lt MOST_RUNS (run_count k)) (known_by adding ((next, member) ∷ []) (older_dots (view_of s s.state) (next ∷ [])) refl refl ∙ sym (seen_older s s.state (next ∷ [])))
@@ -152,7 +152,7 @@ module _ (s : SiteState) (kept : IsKept s) (limits : IsWithinLimits s.state.memb
         test : (n : ℕ) → MOST_RUNS < n → nat_lt MOST_RUNS n ≡ true
         test n h = grind (arith, nat_tests)
 
-    -- and the plan is that of the add
+    -- the plan is that of the add
     pub add_plan : (planned : Planned) → number < length s.names → IsCount (suc s.last_count) → IsCount (suc s.last_time)
         → planned.count ≡ suc s.last_count → planned.time ≡ suc s.last_time
         → HasParts planned.change (dots_seen_below s.state.members (next ∷ [])) (one_held next (member, fields_added stamp penalty (record { paused = paused; reason = [] }) label)) map.empty

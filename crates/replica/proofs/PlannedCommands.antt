@@ -54,11 +54,11 @@ module _ (s : SiteState) (kept : IsKept s) (limits : IsWithinLimits s.state.memb
     below_most : (n : ℕ) → n < MOST_CALLS → nat_lt MOST_CALLS (suc n) ≡ false
     below_most n h = grind (arith, nat_tests)
 
-    -- so that memory may be wanting for it
+    -- a call below its limit may run out of memory
     pub count_wants : so_far < MOST_CALLS → MayWantMemory (meaning_at s (CountCall queue calls))
     count_wants less = subst MayWantMemory (sym count_means) (limits_want (view_of s s.state) (view_of s s.pending) counting (below_most so_far less))
 
-    -- and it is raised
+    -- the plan of a call below its limit raises the total
     pub count_plan : (planned : Planned) (total : ℕ) → so_far < MOST_CALLS → total ≡ so_far + 1 → number < length s.names
         → planned.count ≡ s.last_count → planned.time ≡ s.last_time
         → HasParts planned.change set.empty none_held (join_of map.empty (single (record { site = s.site; queue = number }) (alone calls total)))
@@ -82,7 +82,7 @@ module _ (s : SiteState) (kept : IsKept s) (limits : IsWithinLimits s.state.memb
         totals : planned.change.totals.entries ≡ join_of map.empty (single (record { site = s.site; queue = number }) (alone calls (suc so_far)))
         totals = parts.totals ∙ ap (λ n. join_of map.empty (single (record { site = s.site; queue = number }) (alone calls n))) (is ∙ one so_far)
 
--- what comes of a planned change is what was meant
+-- the result of a planned change is that of its meaning
 pub plan_done : (old new : SiteState) (meant : Meaning) (planned : Planned) (result : Result (Unit {0}) Refusal) → IsKept old → IsWithinLimits old.state.members → IsWithinLimits old.pending.members
     → IsPlan old meant planned → IsMade old planned.change planned.count planned.time new result → IsDone old meant new result
 plan_done old new meant planned result kept limits limits_pending plan made =
@@ -94,7 +94,7 @@ plan_done old new meant planned result kept limits limits_pending plan made =
 pub itself : (s : SiteState) → IsUnchanged s s
 itself s = record { site = refl; names = refl; state = unchanged_self s.state; pending = unchanged_self s.pending; last_count = refl; last_time = refl; frames = refl }
 
--- where nothing was planned the site stays, and what was told is what was meant
+-- where nothing was planned the site stays, and the refusal is that of the meaning
 pub refusal_done : (old : SiteState) (meant : Meaning) (refusal : Refusal) → IsUnplanned meant refusal → IsDone old meant old (Err refusal)
 refusal_done old meant refusal (inl e) = subst (λ r. IsDone old meant old (Err r)) (sym e.0) (memory_done old old meant e.1 (itself old))
 refusal_done old meant refusal (inr e) = refused_done old old meant refusal e (itself old)

@@ -56,7 +56,7 @@ module _ (s : SiteState) (kept : IsKept s) (limits : IsWithinLimits s.state.memb
   abbrev its_dots : List Dot
   its_dots = each (λ p. p.0) seen
 
-  -- they are few enough
+  -- the dots that are seen are few enough
   pub seen_few : length its_dots ≤ MOST_LIVE
   seen_few = let few = rising_few s.state.members its_dots (seen_rise (view_of s s.state).dots queue interface) (seen_all_live s.state.members queue interface) in
       let most = limits.cells in omega arith
@@ -75,7 +75,7 @@ module _ (s : SiteState) (kept : IsKept s) (limits : IsWithinLimits s.state.memb
 
   -- ---- a remove of them
 
-  -- memory may be wanting for it, where some are seen
+  -- a remove may run out of memory, where some dots are seen
   pub remove_wants : (meant : Meaning) → meant ≡ where_present seen (within_limits (view_of s s.state) (view_of s s.pending) (remove_of seen)) → seen ≢ [] → MayWantMemory meant
   remove_wants meant means some = subst MayWantMemory (sym (means ∙ where_some seen _ some)) (limits_want (view_of s s.state) (view_of s s.pending) (remove_of seen) refl)
 
@@ -114,11 +114,11 @@ module _ (s : SiteState) (kept : IsKept s) (limits : IsWithinLimits s.state.memb
       write_means : meant ≡ within_limits (view_of s s.state) (view_of s s.pending) writing
       write_means = where_some seen _ some
 
-      -- memory may be wanting for it
+      -- a write may run out of memory
       pub write_wants : MayWantMemory meant
       write_wants = subst MayWantMemory (sym write_means) (limits_want (view_of s s.state) (view_of s s.pending) writing refl)
 
-      -- what is told of writes is told of it, where its time is past the greatest
+      -- the refusal of all writes is that of this one, where its time is past the greatest
       pub write_told : (dots : List Dot) (refusal : Refusal) → dots ≡ its_dots → IsToldOfWrites s dots refusal → (IsCount next_time → ⊥) → IsUnplanned meant refusal
       write_told dots refusal are told none = by (told queue interface setting are (used_up (max s.last_time (greatest (λ d. time_replaced (view_of s s.state).dots setting d.0) seen)) none))
         where
@@ -126,7 +126,7 @@ module _ (s : SiteState) (kept : IsKept s) (limits : IsWithinLimits s.state.memb
           by (inl e) = inl (e, write_wants)
           by (inr e) = inr (write_means ∙ e)
 
-      -- a context of too many runs is told of
+      -- a context of too many runs gives this refusal
       pub write_long : MOST_RUNS < run_count (dots_seen_below s.state.members its_dots) → meant ≡ Refused MembersFull
       write_long many = write_means ∙ full_means (view_of s s.state) (view_of s s.pending) writing (inr (inr
           (ap (λ k. nat_lt MOST_RUNS (run_count k)) (known_by writing seen (older_dots (view_of s s.state) its_dots) refl refl ∙ sym (seen_older s s.state its_dots))
@@ -135,7 +135,7 @@ module _ (s : SiteState) (kept : IsKept s) (limits : IsWithinLimits s.state.memb
           test : (n : ℕ) → MOST_RUNS < n → nat_lt MOST_RUNS n ≡ true
           test n h = grind (arith, nat_tests)
 
-      -- and the plan is that of the write
+      -- the plan is that of the write
       pub write_plan : (planned : Planned) → IsCount next_time → planned.count ≡ s.last_count → planned.time ≡ next_time
           → HasParts planned.change (dots_seen_below s.state.members its_dots) (written_to s.state.members its_dots (fields_written stamp setting)) map.empty
           → IsPlan s meant planned

@@ -1,4 +1,4 @@
--- What the tests of a replica's parts tell, and what it is once its buffer is joined into its state.
+-- The results of the tests of a replica's parts, and the replica once its buffer is joined into its state.
 use Rattle.std.proofs.Common.{◌≡◌, ◌≢◌, ◌⊎◌, ◌↔◌, inl, inr, ℕ, suc, ◌<◌, ◌≤◌, Option, Some, None, Bool, true, false, if◌then◌else◌, Result, Ok, Err, IfErr, OnOk, length, refl, sym, ap, subst, ◌∙◌, arith}
 use Rattle.std.specs.Prelude.{IsTrue, nat_eq, nat_le, not, is_some}
 use Rattle.std.specs.FinMap as map
@@ -79,7 +79,7 @@ own_prefix dots site n last is own = same short long
     same : (n < last → ⊥) → (last < n → ⊥) → n ≡ last
     same short long = omega arith
 
--- and none is past it
+-- if the own dots are these, none is past the last
 pub own_not_past : (dots : set.FinSet dot_cmp) (site last : ℕ) → IsUpTo dots site last → HasDotPast site last dots → ⊥
 own_not_past dots site last own past = let le = sym (own past.count (let p = past.past in omega arith)) ∙ past.known_dot in at past.count last past.past le
   where
@@ -211,7 +211,7 @@ not_sound s CellsFull lack sound = lack
 not_sound s RunsFull lack sound = lack
 not_sound s Memory lack sound = lack
 
--- and they lack one thing first
+-- parts that aren't sound have one first cause
 pub one_lack : (s : SiteState) (f g : RestoreFault) → IsPartCause s f → IsPartCause s g → f ≡ g
 one_lack s NumberTooLarge NumberTooLarge p q = refl
 one_lack s NumberTooLarge OwnDots p q = absurd (p q.0)
@@ -245,7 +245,7 @@ join_cause d x r refused join.CellsFull is = refused.cells_full.0 is
 join_cause d x r refused join.RunsFull is = refused.runs_full.0 is
 join_cause d x r refused join.Memory is = tt
 
--- and one that has a cause was refused for it
+-- a join that has a cause was refused for it
 pub join_found : (d x : DeltaState) (r : Result (Unit {0}) JoinFault) → IsRefusedJoin d x (λ f. r ≡ Err f) → (fault : RestoreFault) → fault ≢ Memory → IsJoinCause d x fault
     → (f : JoinFault) × (restore_fault_of f ≡ fault) × (r ≡ Err f)
 join_found d x r refused Conflict some cause = (join.Conflict, refl, refused.conflict.1 cause)

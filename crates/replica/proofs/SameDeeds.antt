@@ -33,7 +33,7 @@ use Rattle.replica.proofs.TakingIn.{copied_live}
 both_empty : (d e : DeltaState) → IsEmpty d → IsEmpty e → IsSame d e
 both_empty d e a b = record { conditions = λ dot. a.conditions dot ∙ sym (b.conditions dot); known = a.known ∙ sym b.known; totals = a.totals ∙ sym b.totals }
 
--- and what says the same as an empty one is empty
+-- a delta that says the same as an empty one is empty
 empty_too : (d e : DeltaState) → IsSame d e → IsEmpty d → IsEmpty e
 empty_too d e same empty = record { conditions = λ dot. sym (same.conditions dot) ∙ empty.conditions dot; known = sym same.known ∙ empty.known; totals = sym same.totals ∙ empty.totals }
 
@@ -49,7 +49,7 @@ joins_same d e x y f g a b j k = record {
   totals = j.totals ∙ (λ i. join_of (a.totals i) (b.totals i)) ∙ sym k.totals;
 }
 
--- so it is where both are joined with one operation
+-- joins with one operation of deltas that say the same say the same
 joined_same : (d e f g : DeltaState) (o : Operation) → IsSame d e → HasJoined d o f → HasJoined e o g → IsSame f g
 joined_same d e f g o same j k = joins_same d e j.change k.change f g same (one_delta j.change k.change _ j.stands k.stands) j.joined k.joined
 
@@ -58,7 +58,7 @@ cells_same : (d e x : DeltaState) → IsSame d e → cells_joined d.members x.me
 unfolding joined_dots
 cells_same d e x same = λ i. set.len (set.retain (set.union (same.known i) x.members.known) (λ dot. is_live (condition_joined (same.conditions dot i) (condition_of x.members dot))))
 
--- and as many runs
+-- a join with a delta that says the same has as many runs
 runs_same : (d e x : DeltaState) → IsSame d e → runs_joined d.members x.members ≡ runs_joined e.members x.members
 runs_same d e x same = ap (λ known. run_count (set.union known x.members.known)) same.known
 
@@ -75,7 +75,7 @@ module _ (s t : SiteState) (same : IsSameSite s t) where
     last_time = sym same.last_time i;
   }
 
-  -- so a command means the same
+  -- a command means the same at sites that say the same
   pub means_same : (change : Change) → meaning_at s change ≡ meaning_at t change
   means_same change = λ i. meaning (sym same.site i) (sym same.names i) (view_same s.state t.state same.state i) (view_same s.pending t.pending same.pending i) change
 
@@ -83,7 +83,7 @@ module _ (s t : SiteState) (same : IsSameSite s t) where
   pub rows_same : (queue : ℕ) → rows_of s queue ≡ rows_of t queue
   rows_same queue = ap (λ live. rows_read (sets.view_of live) queue) (copied_live s.state t.state same.state)
 
-  -- and the same totals
+  -- a queue has the same totals at sites that say the same
   pub sums_same : (queue : ℕ) → sums_of s queue ≡ sums_of t queue
   sums_same queue = ap (λ entries. sum_of entries queue) same.state.totals
 
@@ -105,21 +105,21 @@ module _ (s t : SiteState) (same : IsSameSite s t) where
   pub strange_same : (d : DeltaState) → SpeaksOfStrangeQueue (length s.names) d → SpeaksOfStrangeQueue (length t.names) d
   strange_same d strange = subst (λ names. SpeaksOfStrangeQueue (length names) d) (sym same.names) strange
 
-  -- so both may hear the same
+  -- sites that say the same may hear the same deltas
   hear_same : (d : DeltaState) → MayHear s d → MayHear t d
   hear_same d hears = record {
     queues = λ strange. hears.queues (subst (λ names. SpeaksOfStrangeQueue (length names) d) same.names strange);
     own = λ past. hears.own (not_mine d past);
   }
 
-  -- and may join the same
+  -- sites that say the same may join the same deltas
   join_same : (d : DeltaState) → MayJoin s d → MayJoin t d
   join_same d joins = record {
     hears = hear_same d joins.hears;
     agree = λ dot. subst (λ c. ConditionsAgree c (condition_of d.members dot)) (same.state.conditions dot) (joins.agree dot);
   }
 
-  -- and may take the same
+  -- sites that say the same may take the same deltas
   pub may_same : (d : DeltaState) → MayTake s d → MayTake t d
   may_same d may = record {
     joins = join_same d may.joins;
@@ -141,7 +141,7 @@ module _ (s t : SiteState) (same : IsSameSite s t) where
   pub cells_full_same : (d : DeltaState) → MayJoin s d × (MOST_LIVE < cells_joined s.state.members d.members) → MayJoin t d × (MOST_LIVE < cells_joined t.state.members d.members)
   cells_full_same d (joins, many) = (join_same d joins, subst (λ n. MOST_LIVE < n) (cells_same s.state t.state d same.state) many)
 
-  -- and so does what makes too many runs
+  -- a delta that makes too many runs does at both
   pub runs_full_same : (d : DeltaState) → MayJoin s d × (cells_joined s.state.members d.members ≤ MOST_LIVE) × (MOST_RUNS < runs_joined s.state.members d.members)
       → MayJoin t d × (cells_joined t.state.members d.members ≤ MOST_LIVE) × (MOST_RUNS < runs_joined t.state.members d.members)
   runs_full_same d (joins, few, many) = (
@@ -151,7 +151,7 @@ module _ (s t : SiteState) (same : IsSameSite s t) where
   )
 
   module _ (new after : SiteState) where
-    -- what comes of one meaning is the same
+    -- the result of one meaning is the same
     meant_same : (m : Meaning) (result other : Result (Unit {0}) Refusal) → Follows s m new result → Follows t m after other → (result ≡ other) × IsSameSite new after
     meant_same (Makes o) result other (done, made) (also, makes) = (
       done ∙ sym also,
@@ -170,7 +170,7 @@ module _ (s t : SiteState) (same : IsSameSite s t) where
       site_through new s after (site_turned s new (unchanged_site s new kept)) (site_through s t after same (unchanged_site t after keeps)),
     )
 
-    -- and so is what comes of one command
+    -- the result of one command is the same
     pub follows_same : (change : Change) (result other : Result (Unit {0}) Refusal) → Follows s (meaning_at s change) new result → Follows t (meaning_at t change) after other
         → (result ≡ other) × IsSameSite new after
     follows_same change result other follows also =
@@ -195,7 +195,7 @@ module _ (s t : SiteState) (same : IsSameSite s t) where
       },
     )
 
-    -- and so do frames of all
+    -- frames of everything from both sites say the same
     pub whole_same : (frame other : Frame) → IsWholeDeed s frame new → IsWholeDeed t other after → IsSameFrame frame other × IsSameSite new after
     whole_same frame other deed also = let a = deed.made in let b = also.made in (
       record {
@@ -214,7 +214,7 @@ module _ (s t : SiteState) (same : IsSameSite s t) where
       },
     )
 
-    -- and what has taken one delta
+    -- sites that have taken one delta say the same
     pub take_same : (d : DeltaState) → IsTakeDeed s d new → IsTakeDeed t d after → IsSameSite new after
     take_same d deed also = let a = deed.taken in let b = also.taken in record {
       site = b.site ∙ same.site ∙ sym a.site;

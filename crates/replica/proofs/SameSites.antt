@@ -10,7 +10,7 @@ use Rattle.replica.proofs.StandingSites.{equal_same, same-stands, unchanged_same
 pub delta_turned : (d e : DeltaState) → IsSame d e → IsSame e d
 delta_turned d e same = record { conditions = λ dot. sym (same.conditions dot); known = sym same.known; totals = sym same.totals }
 
--- and from one to the next
+-- to say the same is transitive on deltas
 pub delta_through : (d e f : DeltaState) → IsSame d e → IsSame e f → IsSame d f
 delta_through d e f one two = record { conditions = λ dot. one.conditions dot ∙ two.conditions dot; known = one.known ∙ two.known; totals = one.totals ∙ two.totals }
 
@@ -26,7 +26,7 @@ site_itself s = record {
   frames = refl;
 }
 
--- both ways
+-- to say the same is symmetric on sites
 pub site_turned : (s t : SiteState) → IsSameSite s t → IsSameSite t s
 site_turned s t same = record {
   site = sym same.site;
@@ -38,7 +38,7 @@ site_turned s t same = record {
   frames = sym same.frames;
 }
 
--- and from one to the next
+-- to say the same is transitive on sites
 pub site_through : (s t u : SiteState) → IsSameSite s t → IsSameSite t u → IsSameSite s u
 site_through s t u one two = record {
   site = two.site ∙ one.site;
@@ -62,7 +62,7 @@ unchanged_site old new same = record {
   frames = same.frames;
 }
 
--- and so does one that is equal
+-- an equal site says the same
 pub equal_site : (old new : SiteState) → new ≡ old → IsSameSite old new
 equal_site old new e = subst (IsSameSite old) (sym e) (site_itself old)
 

@@ -22,7 +22,7 @@ given_seen s given q h =
     let older = set.retain s.known (λ dot. not (map.contains_key s.live dot) && is_older given dot) in
     set.contains-union dots_total (set.from_list given) older q ∙ ap (λ b. b || set.contains older q) (set.contains-from_list dots_total given q ∙ h)
 
--- so is one that is given alone
+-- a single given dot is among those that are seen
 pub one_seen : (s : Members) (dot : Dot) → set.contains (dots_seen_below s (dot ∷ [])) dot ≡ true
 one_seen s dot = given_seen s (dot ∷ []) dot (ap (λ b. b || list_any (is_dot dot) []) (same_itself dot))
 
@@ -30,6 +30,6 @@ one_seen s dot = given_seen s (dot ∷ []) dot (ap (λ b. b || list_any (is_dot 
 pub none_before : (live : map.FinMap dot_cmp Holding) (dot : Dot) → live ≡ map.empty → (q : Dot) → IsSome (map.get live q) → dot_cmp q dot ≡ Less
 none_before live dot empty q h = absurd (true≢false (sym h ∙ ap (λ m. map.contains_key m q) empty ∙ ap is_some (map.get-empty dot_cmp q)))
 
--- and there is a place
+-- if no dot is live, there is room for one
 pub none_full : (live : map.FinMap dot_cmp Holding) → live ≡ map.empty → map.len live < MOST_LIVE
 none_full live empty = let e = ap map.len empty ∙ map.len-empty dot_cmp Holding in omega (arith, e)

@@ -52,7 +52,7 @@ below_filter p x (d ∷ ds) h =
     at true l rest = (λ i. l i && rest i)
     at false l rest = rest
 
--- those that a test leaves rise
+-- the dots that a filter leaves are sorted
 filter_rises : (p : Dot → Bool) (dots : List Dot) → DotsRise dots → DotsRise (filter p dots)
 filter_rises p [] h = refl
 filter_rises p (d ∷ ds) h =
@@ -89,7 +89,7 @@ pub record IsOwn (r : DotView) (m : Member) (q : Dot) : Type 0 where
   pub visible : set.contains r.visible q ≡ true
   pub member : r.member q ≡ Some m
 
--- the test of a dot's member tells it
+-- the test of a dot's member decides it
 is_member : (o : Option Member) (member : Member) → option_map_or (eq_by_cmp member_cmp member) o false ≡ true → o ≡ Some member
 is_member None member h = absurd (true≢false (sym h))
 is_member (Some m) member h = ap Some (sym (exact_members member m (equal_of _ h)))
@@ -98,7 +98,7 @@ is_member (Some m) member h = ap Some (sym (exact_members member m (equal_of _ h
 element : (dots : List Dot) (q : Dot) → list_any (is_dot q) dots ≡ true → Contains dots q
 element dots q h = let p = in_any (is_dot q) dots h in subst (Contains dots) (sym (one_dot q p.0 p.2)) p.1
 
--- and an element is one of it
+-- an element of a list is found in it
 pub listed : (dots : List Dot) (q : Dot) → Contains dots q → list_any (is_dot q) dots ≡ true
 listed dots q h = any_in (is_dot q) dots q h (same_itself q)
 
@@ -112,14 +112,14 @@ module _ (r : DotView) where
         member = is_member (r.member q) member (passes (is_of r member) (in_order r.visible) q found);
       }
 
-  -- and its own is a dot of it
+  -- a dot that is a member's own is one of its dots
   pub to_member : (member : Member) (q : Dot) → IsOwn r member q → list_any (is_dot q) (dots_of r member) ≡ true
   to_member member q own =
       listed (dots_of r member) q (filter_has (is_of r member) (in_order r.visible) q
       (element (in_order r.visible) q (in_order_has dots_total r.visible q ∙ own.visible))
       (ap (λ o. option_map_or (eq_by_cmp member_cmp member) o false) own.member ∙ ap is_eq (tied_itself members_total member)))
 
-  -- they rise
+  -- the dots of a member are sorted
   pub member_rises : (member : Member) → DotsRise (dots_of r member)
   member_rises member = filter_rises (is_of r member) (in_order r.visible) (in_order_rises r.visible)
 
@@ -146,7 +146,7 @@ module _ (r : DotView) (interface : List ℕ) where
       at None e l rest = rest
       at (Some p) e l rest = (λ i. (ap (λ y. is_lt (dot_cmp x y)) (sym (with_own r interface d p e)) ∙ l) i && rest i)
 
-  -- they rise
+  -- the dots of an interface among some are sorted
   left_rises : (dots : List Dot) → DotsRise dots → DotsRise (left dots)
   left_rises [] h = refl
   left_rises (d ∷ ds) h =
@@ -189,7 +189,7 @@ none_first : (xs ys : List Dot) → xs ++ ys ≡ [] → xs ≡ []
 none_first [] ys e = refl
 none_first (x ∷ xs) ys e = absurd (cc)
 
--- and so is the second
+-- of two lists that are empty together the second is empty
 none_second : (xs ys : List Dot) → xs ++ ys ≡ [] → ys ≡ []
 none_second [] ys e = e
 none_second (x ∷ xs) ys e = absurd (cc)
@@ -216,7 +216,7 @@ module _ (r : DotView) (interface : List ℕ) where
         | inr f ↦ record { queue = n; below = omega arith; own = of_member r (in_queue n) q (ap (λ b. b || list_any (is_dot q) (dots_of r (in_queue n))) (sym f) ∙ parts) }
       ]
 
-  -- and what is, is one of them
+  -- a dot that is the interface's own in a lesser queue is one of them
   own_below : (n : ℕ) (q : Dot) (queue : ℕ) → queue < n → IsOwn r (in_queue queue) q → list_any (is_dot q) (dots_below r interface n) ≡ true
   unfolding dots_below
   own_below zero q queue l own = absurd (omega arith)
@@ -232,7 +232,7 @@ module _ (r : DotView) (interface : List ℕ) where
       later true e = refl
       later false e = e
 
-  -- where there is none, there is none in any of these queues
+  -- if there is no dot, there is none in any of these queues
   pub none_of_them : (n queue : ℕ) → queue < n → dots_below r interface n ≡ [] → dots_of r (in_queue queue) ≡ []
   unfolding dots_below
   none_of_them zero queue l e = absurd (omega (arith, l))
@@ -259,7 +259,7 @@ module _ (r : DotView) (interface : List ℕ) where
           let l = b.below in
           absurd (omega (arith, queues, l))
 
-  -- ---- the dots of an interface, in their order
+  -- ---- the dots of an interface, in order
 
   -- the dots of the interface in every queue
   abbrev all_seen : List Dot
@@ -303,7 +303,7 @@ module _ (r : DotView) (interface : List ℕ) where
         },
       )
 
-  -- and its own in a queue is one of all that are seen
+  -- a dot that is the interface's own in a queue is one of all that are seen
   own_seen : (q : Dot) (queue : ℕ) → IsOwn r (in_queue queue) q → list_any (is_dot q) all_seen ≡ true
   own_seen q queue own =
       let f = with_interface r interface in
@@ -315,7 +315,7 @@ module _ (r : DotView) (interface : List ℕ) where
       ∙ any_in (λ (p : Dot × Member). is_dot q p.0) (dots_seen r None interface) p
       (some_in f (in_order r.visible) q p (element (in_order r.visible) q (in_order_has dots_total r.visible q ∙ own.visible)) is) (same_itself q)
 
-  -- where none is seen, there is none in the queues below any number
+  -- if no dot is seen, there is none in the queues below any number
   pub none_below : (n : ℕ) → dots_seen r None interface ≡ [] → dots_below r interface n ≡ []
   none_below n none = by (dots_below r interface n) refl
     where
@@ -348,7 +348,7 @@ seen_member r (Some queue) interface p h =
     let member : Member = record { queue = queue; interface = interface } in
     (of_member r member p.0 (listed (dots_of r member) p.0 (in_paired member (dots_of r member) p h))).member ∙ ap Some (sym (paired_with member (dots_of r member) p h))
 
--- they rise
+-- the dots that are seen are sorted
 pub seen_rise : (r : DotView) (queue : Option ℕ) (interface : List ℕ) → DotsRise (each (λ p. p.0) (dots_seen r queue interface))
 seen_rise r None interface = left_rises r interface (in_order r.visible) (in_order_rises r.visible)
 seen_rise r (Some queue) interface =
@@ -359,7 +359,7 @@ module _ (s : Members) (queue : Option ℕ) (interface : List ℕ) where
   abbrev pairs : List (Dot × Member)
   pairs = dots_seen (dot_view_of s) queue interface
 
-  -- they are live in it
+  -- the dots that are seen in a set are live in it
   pub seen_all_live : All (λ dot. map.contains_key s.live dot ≡ true) (each (λ p. p.0) pairs)
   seen_all_live k d l =
       let x = get_or (each (λ p. p.0) pairs) k d in

@@ -45,7 +45,7 @@ rising_once (x ∷ xs) h =
     below [] h = tt
     below (y ∷ ys) h = let p = and_parts (is_lt (dot_cmp x y)) (below_all dot_cmp x (units ys)) h in (apart_after x y p.0, below ys p.1)
 
--- nor of those that a test leaves
+-- a dot that differs from each differs from each that a filter leaves
 differs_filter : (p : Dot → Bool) (x : Dot) (dots : List Dot) → Differs x dots → Differs x (filter p dots)
 differs_filter p x [] h = tt
 differs_filter p x (d ∷ ds) h = at (p d) (differs_filter p x ds h.1)
@@ -54,7 +54,7 @@ differs_filter p x (d ∷ ds) h = at (p d) (differs_filter p x ds h.1)
     at true rest = (h.0, rest)
     at false rest = rest
 
--- nor of those that a test leaves of more
+-- no dot that a filter leaves occurs twice
 filter_once : (p : Dot → Bool) (dots : List Dot) → AreOnce dots → AreOnce (filter p dots)
 filter_once p [] h = h
 filter_once p (d ∷ ds) h = at (p d) (filter_once p ds (IsDistinct-tail is_dot d ds h))
@@ -77,7 +77,7 @@ module _ (f : Dot → Option (Dot × Member)) (own : (d : Dot) (p : Dot × Membe
       at None e rest = rest
       at (Some p) e rest = (ap (is_dot x) (sym (own d p e)) ∙ h.0, rest)
 
-  -- and none that is left comes twice
+  -- no dot that is left occurs twice
   left_once : (dots : List Dot) → AreOnce dots → AreOnce (left dots)
   left_once [] h = h
   left_once (d ∷ ds) h = at (f d) refl (left_once ds (IsDistinct-tail is_dot d ds h))

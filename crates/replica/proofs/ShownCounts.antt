@@ -45,7 +45,7 @@ unfolding sum_below
 sum_kept zero f g same = refl
 sum_kept (suc n) f g same = let rest = sum_kept n f g (λ i l. same i (omega arith)) in let last = same n (omega arith) in omega (arith, rest, last)
 
--- and is one more where one of them is
+-- a sum is one more if one of its terms is
 sum_more : (n : ℕ) (f g : ℕ → ℕ) (site : ℕ) → site < n → g site ≡ suc (f site) → ((i : ℕ) → i ≢ site → g i ≡ f i) → sum_below n g ≡ suc (sum_below n f)
 unfolding sum_below
 sum_more zero f g site l more same = absurd (omega arith)

@@ -49,7 +49,7 @@ module _ (r : DotView) (queue : ℕ) (interface : List ℕ) where
       by [] h = absurd (cc)
       by (d ∷ ds) h = refl
 
-  -- where it asks for one that isn't there, it has no dots
+  -- if a command asks for a member that isn't there, the member has no dots
   absent_dots : (m : Meaning) (o : Operation) → where_absent (dots_seen r (Some queue) interface) m ≡ Makes o → dots_of r (member_at queue interface) ≡ []
   absent_dots m o h = by (dots_of r (member_at queue interface)) refl h
     where
@@ -67,7 +67,7 @@ module _ (k : Knowledge) (queue : ℕ) (interface : List ℕ) where
   abbrev removed : Operation
   removed = remove_of (dots_seen (dot_view k) (Some queue) interface)
 
-  -- it names just these dots
+  -- the remove names exactly these dots
   removed_names : (q : Dot) → names q removed ≡ list_any (is_dot q) (dots_of (dot_view k) gone)
   removed_names q =
       set.contains-from_list dots_total (each (λ d. d.0) (dots_seen (dot_view k) (Some queue) interface)) q
@@ -118,7 +118,7 @@ module _ (site : ℕ) (k : Knowledge) (queue : ℕ) (interface : List ℕ) (pena
   abbrev new_dot : Dot
   new_dot = record { site = site; count = suc (greatest (count_used site) k) }
 
-  -- it asserts its dot alone
+  -- the add asserts only its dot
   asserts_new : asserts new_dot added ≡ true
   asserts_new = ap (λ b. b || false) (same_itself new_dot)
 
@@ -146,11 +146,11 @@ module _ (site : ℕ) (k : Knowledge) (queue : ℕ) (interface : List ℕ) (pena
         unknown : set.contains (known_dots k) new_dot ≡ false
         unknown = false_from_ne_true (set.contains (known_dots k) new_dot) (λ h. none_past (record { count = suc (greatest (count_used site) k); known_dot = h; past = omega arith }))
 
-    -- so it isn't any member's own before
+    -- the new dot isn't any member's own before
     fresh_own : (member : Member) (q : Dot) → asserts q added ≡ true → IsOwn (dot_view k) member q → ⊥
     fresh_own member q h own = true≢false (sym (visible_parts k q own.visible).0 ∙ ap (is_asserted k) (only_new q h) ∙ fresh.0)
 
-    -- and is the new member's own then
+    -- the new dot is the new member's own after the add
     new_own : IsOwn (dot_view (added ∷ k)) new_member new_dot
     new_own = record {
       visible = visible_from (added ∷ k) new_dot (ap (λ b. b || is_asserted k new_dot) asserts_new) (λ i. names_older new_dot fresh.1 i || fresh.1 i);

@@ -124,7 +124,7 @@ module _ (r s : DotView) (member : Member) (stamp : Stamp) (setting : Setting) (
       ap (λ dots. latest_of (filter_map (λ q. field (s.fields q)) dots)) has
       ∙ all_latest (λ q. field (s.fields q)) entry d ds (λ q here. ap field (wrote q here) ∙ ap (λ y. field (fields_with stamp y (r.fields q))) e ∙ is (r.fields q))
 
-  -- so it is with the member's fields
+  -- the member's fields are those with the setting
   member_set : member_fields s member ≡ fields_with stamp setting (member_fields r member)
   member_set = by setting refl
     where
@@ -154,12 +154,12 @@ module _ (r s : DotView) (member : Member) (stamp : Stamp) (setting : Setting) (
         ring = field_set (λ f. f.ring) e (record { stamp = stamp; value = ring }) (λ f. refl) i;
       }
 
-  -- and with its row
+  -- the member's row is the one with the setting
   row_written : row_of s member ≡ Some (row_with setting (row_of_fields (member_fields r member)))
   row_written =
       ap (λ dots. row_if dots (row_of_fields (member_fields s member))) has ∙ ap (λ f. Some (row_of_fields f)) member_set ∙ ap Some (row_set stamp setting (member_fields r member))
 
--- so it is with each member that has dots, and one that has none has no row
+-- each member with dots has the row with the setting, and a member without dots has no row
 rows_set : (r s : DotView) (member : Member) (stamp : Stamp) (setting : Setting) → dots_of s member ≡ dots_of r member
     → ((q : Dot) → Contains (dots_of r member) q → s.fields q ≡ fields_with stamp setting (r.fields q)) → row_of s member ≡ option_map (row_with setting) (row_of r member)
 rows_set r s member stamp setting same wrote = by (dots_of r member) refl
@@ -187,7 +187,7 @@ seen_all r (Some queue) interface member q at here =
     subst (λ (m : Member). Contains (dots_of r m) q → Contains {X = Dot × Member} (dots_seen r (Some queue) interface) (q, m)) (sym at)
     (λ h. map_in {Y = Dot × Member} (λ dot. (dot, member_at queue interface)) (dots_of r (member_at queue interface)) q h) here
 
--- and what is seen is of such a member
+-- each dot that is seen is of a member that the setting is for
 seen_at : (r : DotView) (queue : Option ℕ) (interface : List ℕ) (p : Dot × Member) → Contains (dots_seen r queue interface) p → IsAt queue interface p.1
 seen_at r None interface p here =
     let x = in_some (with_interface r interface) (in_order r.visible) p here in
@@ -205,7 +205,7 @@ module _ (k : Knowledge) (queue : Option ℕ) (interface : List ℕ) where
         has_row k p.1 p.0 (seen_visible (dot_view k) queue interface p here) (seen_member (dot_view k) queue interface p here),
       )
 
-  -- and where nothing is seen, none is
+  -- if no dot is seen, no member that the setting is for is there
   pub none_seen : dots_seen (dot_view k) queue interface ≡ [] → (member : Member) → IsAt queue interface member → row_in k member ≡ None
   none_seen none member at = no_row (dot_view k) member (by (dots_of (dot_view k) member) refl)
     where
@@ -223,7 +223,7 @@ module _ (names : List (List ℕ)) (queue : List ℕ) (number : ℕ) (interface 
       at_number : Some member.queue ≡ Some number → member ≡ member_at number interface
       at_number e = let same : member.queue ≡ number = cc in λ i. record { queue = same i; interface = is.1 i }
 
-  -- and that is one that it is for
+  -- a member in the queue of its number is one that the setting is for
   pub from_number : (member : Member) → IsAt (Some number) interface member → IsSetOn names (Some queue) interface member
   from_number member at = (numbered ∙ ap (λ (m : Member). Some m.queue) (sym at), ap (λ (m : Member). m.interface) at)
 
@@ -299,7 +299,7 @@ module _ (site : ℕ) (k : Knowledge) (queue : Option ℕ) (interface : List ℕ
       row_passed written k other (λ q h own. not_other other apart q h (sym (members_stay q) ∙ own.member)) (λ q h own. not_other other apart q h own.member) (λ q own.
       write_names q (visible_parts k q own.visible).1)
 
-  -- where it asks for a member that is there, one is
+  -- if a setting asks for a member that is there, one is
   set_there : (m : Meaning) (o : Operation) → where_present seen m ≡ Makes o → (member : Member) × IsAt queue interface member × IsSome (row_in k member)
   set_there m o h = by seen refl h
     where

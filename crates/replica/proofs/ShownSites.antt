@@ -18,7 +18,7 @@ use Rattle.replica.specs.Steps.{SiteKnowledge}
 pub known_as : (state : SiteState) (s : SiteKnowledge) → StandsFor state s → IsReadAs state.state s.known
 known_as state s stands = read_as state.state s.known stands.known
 
--- so a member has the same row
+-- a member has the same row at a state and its knowledge
 pub row_shown : (state : SiteState) (s : SiteKnowledge) → StandsFor state s → (member : Member)
     → row_of (dot_view_of state.state.members) member ≡ row_of (dot_view s.known) member
 row_shown state s stands = same_row (dot_view_of state.state.members) (dot_view s.known) (known_as state s stands).dots
@@ -28,7 +28,7 @@ pub rows_shown : (state : SiteState) (s : SiteKnowledge) → StandsFor state s �
     → rows_of (dot_view_of state.state.members) queue ≡ rows_of (dot_view s.known) queue
 rows_shown state s stands = same_rows (dot_view_of state.state.members) (dot_view s.known) (known_as state s stands).dots
 
--- and the same totals
+-- a queue has the same totals at a state and its knowledge
 pub completed_shown : (state : SiteState) (s : SiteKnowledge) → StandsFor state s → (queue : ℕ) → (sums_of state queue).completed ≡ queue_total s.known queue Completed
 completed_shown state s stands queue = ap (sum_below SITES) (λ i site. (known_as state s stands).totals site queue Completed i)
 

@@ -42,11 +42,11 @@ module _ (x : DeltaState) (none : (q : Dot) → map.get x.members.live q ≡ Non
   no_holding : (q : Dot) (h : Holding) → map.get x.members.live q ≡ Some h → ⊥
   no_holding q h e = let n = none q in (cc)
 
-  -- they are new to everything
+  -- changes in which no dot is live are new to every delta
   pub none_new : (d : DeltaState) → IsNewTo d x
   none_new d = record { room = λ dot m f e. absurd (no_holding dot (m, f) (condition_live x dot m f e)) }
 
-  -- and have no stamps
+  -- changes in which no dot is live have no stamps
   pub none_stamped : (site time : ℕ) → HasOwnStamps site time x
   none_stamped site time dot h live = absurd (no_holding dot h live)
 

@@ -32,7 +32,7 @@ use Rattle.replica.proofs.TracesMade.{makes_traces}
 pub unchanged_same : (old new : DeltaState) → deltas.IsUnchanged old new → IsSame old new
 unchanged_same old new same = record { conditions = λ dot. sym (unchanged_condition old new same dot); known = sym same.members.known; totals = sym same.totals }
 
--- so does one that is equal
+-- an equal delta says the same
 pub equal_same : (old new : DeltaState) → new ≡ old → IsSame old new
 equal_same old new e = subst (λ d. IsSame d new) e (record { conditions = λ dot. refl; known = refl; totals = refl })
 
@@ -57,7 +57,7 @@ reads_alike state s stands = let read = read_as state.state s.known stands.known
   last_time = sym stands.last_time;
 }
 
--- and its buffer is as full
+-- the buffer of a site is as full as that of its knowledge
 reads_as_full : (state : SiteState) (s : SiteKnowledge) → StandsFor state s → AreAsFull (view_of state state.pending) (site_view state.site s.buffer)
 reads_as_full state s stands = record { visible = (read_as state.pending s.buffer stands.buffer).dots.visible; known = stands.buffer.dots }
 

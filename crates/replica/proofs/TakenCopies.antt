@@ -11,7 +11,7 @@ use Rattle.replica.proofs.SameSites.{delta_turned}
 use Rattle.replica.proofs.TakingIn.{copy_agrees, copy_joined, same_cells, same_runs}
 
 module _ (d e : DeltaState) (same : IsSame d e) where
-  -- both have the same live dots
+  -- deltas that say the same have the same live dots
   live_is : d.members.live ≡ e.members.live
   live_is = sym (says_the_same d.members e.members same.conditions same.known).live
 
@@ -20,13 +20,13 @@ module _ (d e : DeltaState) (same : IsSame d e) where
   strange_too queues (inl s) = inl (record { dot = s.dot; held = s.held; live = ap (λ live. map.get live s.dot) live_is ∙ s.live; strange = s.strange })
   strange_too queues (inr s) = inr (subst (HasStrangeTotal queues) (sym same.totals) s)
 
-  -- and of what a site hasn't made
+  -- if a delta has what a site hasn't made, so has each that says the same
   not_mine_too : (s : SiteState) → IsNotMine s e → IsNotMine s d
   not_mine_too s (inl (inl p)) = inl (inl (subst (HasDotPast s.site s.last_count) (sym same.known) p))
   not_mine_too s (inl (inr p)) = inl (inr (record { dot = p.dot; held = p.held; live = ap (λ live. map.get live p.dot) live_is ∙ p.live; past = p.past }))
   not_mine_too s (inr p) = inr (subst (HasTotalPast s.site s.state.totals.entries) (sym same.totals) p)
 
-  -- so what may take one may take the other
+  -- a site that may take a delta may take each that says the same
   pub may_take_same : (s : SiteState) → MayTake s d → MayTake s e
   may_take_same s may = record {
     joins = record {
@@ -37,7 +37,7 @@ module _ (d e : DeltaState) (same : IsSame d e) where
     runs = subst (λ n. n ≤ MOST_RUNS) (sym (same_runs s.state d e same)) may.runs;
   }
 
-  -- and what has taken one has taken the other
+  -- a site that has taken a delta has taken each that says the same
   pub taken_same : (old new : SiteState) → IsTakeDeed old d new → IsTakeDeed old e new
   taken_same old new deed = let taken = deed.taken in record {
     may = may_take_same old deed.may;

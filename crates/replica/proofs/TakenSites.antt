@@ -56,7 +56,7 @@ written_up_to site last field none entry is =
     at true s time e no_more = let own : s ≡ site = grind (arith, nat_tests) in let within = no_more own in omega arith
     at false s time e no_more = omega arith
 
--- so its own stamps are up to the last time
+-- a delta without later writes of a site has the site's stamps up to its last time
 pub stamps_up_to : (site last : ℕ) (d : DeltaState) → (HasStampPast site last d.members → ⊥) → HasOwnStamps site last d
 stamps_up_to site last d none dot held live = record {
   penalty = written_up_to site last held.1.penalty (λ w. none (record { dot = dot; held = held; live = live; past = inl w }));
@@ -65,7 +65,7 @@ stamps_up_to site last d none dot held live = record {
   ring = written_up_to site last held.1.ring (λ w. none (record { dot = dot; held = held; live = live; past = inr (inr (inr w)) }));
 }
 
--- and it is of the site's queues
+-- a delta without foreign queues is of the site's queues
 pub in_queues : (n : ℕ) (d : DeltaState) → (SpeaksOfStrangeQueue n d → ⊥) → AreInQueues n d
 in_queues n d none = record {
   members = λ dot held live. at held.0.queue (λ strange. none (inl (record { dot = dot; held = held; live = live; strange = strange })));
@@ -114,7 +114,7 @@ unchanged_self d = record { members = record { known = refl; live = refl; ids = 
 
 -- ---- refusals
 
--- the fault of a join by that of a take; those that no join has stand for want of memory
+-- the fault of a join by that of a take; `Memory` for those that no join has
 back : TakeFault → JoinFault
 back NoSuchQueue = join.Memory
 back NotMine = join.Memory
@@ -167,7 +167,7 @@ module _ (s : SiteState) (d : DeltaState) where
   refusals_taken hears r u done refused =
       refusals_heard (λ f. ⊥) (λ f. r ≡ Err f) hears refused (λ f. (λ p. absurd p, λ e. absurd (cc))) (λ p. p) (λ p. p)
 
-  -- and the site may take it
+  -- a site may take the delta of a frame that was taken
   pub may_take : MayHear s d → DeltasAgree s.state d → (r : Result (Unit {0}) JoinFault) (u : Unit {0}) → r ≡ Ok u → IsRefusedJoin s.state d (λ f. r ≡ Err f) → MayTake s d
   may_take hears agree r u done refused = record {
     joins = record { hears = hears; agree = agree };
@@ -229,11 +229,11 @@ module _ (old : SiteState) (d : DeltaState) (s : SiteKnowledge) (k : Knowledge) 
       runs_both old.state d s.known k stands.known says
       ∙ ap run_count (known_both s.known k ∙ union_comm (known_dots s.known) (known_dots k) ∙ sym (known_both k s.known))
 
-  -- what comes of a take, by two tests
+  -- the outcome of a take, by two tests
   abbrev outcome_by : Bool → Bool → SiteKnowledge × Outcome
   outcome_by a b = if a then (s, steps.CellsFull) else if b then (s, steps.RunsFull) else (record { known = k ++ s.known; buffer = s.buffer; frames = s.frames }, Taken)
 
-  -- so a take is done where there is room
+  -- a take is done if there is room
   is_taken : cells_joined old.state.members d.members ≤ MOST_LIVE → runs_joined old.state.members d.members ≤ MOST_RUNS
       → steps.take s k ≡ (record { known = k ++ s.known; buffer = s.buffer; frames = s.frames }, Taken)
   is_taken few short = λ i. outcome_by (within MOST_LIVE (set.len (visible_dots (k ++ s.known))) (subst (λ n. n ≤ MOST_LIVE) cells_are few) i) (within MOST_RUNS (run_count (known_dots (k ++ s.known))) (subst (λ n. n ≤ MOST_RUNS) runs_are short) i)
@@ -241,7 +241,7 @@ module _ (old : SiteState) (d : DeltaState) (s : SiteKnowledge) (k : Knowledge) 
       within : (m n : ℕ) → n ≤ m → nat_lt m n ≡ false
       within m n h = grind (arith, nat_tests)
 
-  -- and else it is refused
+  -- a take is refused if there are too many live dots
   pub many_cells : MOST_LIVE < cells_joined old.state.members d.members → steps.take s k ≡ (s, steps.CellsFull)
   many_cells many = ap (λ b. outcome_by b (nat_lt MOST_RUNS (run_count (known_dots (k ++ s.known))))) (past MOST_LIVE (set.len (visible_dots (k ++ s.known))) (subst (λ n. MOST_LIVE < n) cells_are many))
     where
@@ -266,7 +266,7 @@ module _ (old : SiteState) (d : DeltaState) (s : SiteKnowledge) (k : Knowledge) 
   fault_meant r refused join.RunsFull is = let full = refused.runs_full.0 is in ap (λ a. a.1) (many_runs full.1 full.2)
   fault_meant r refused join.Memory is = tt
 
-  -- and so is a take
+  -- a take that is done is what is meant
   pub take_meant : (new : SiteState) → MayTake old d → HasTakenDelta old d new → HasNoneLater old k → StandsFor new (steps.take s k).0 × ((steps.take s k).1 ≡ Taken)
   take_meant new may taken later =
       subst (λ (a : SiteKnowledge × Outcome). StandsFor new a.0 × (a.1 ≡ Taken)) (sym (is_taken may.cells may.runs)) (

@@ -30,7 +30,7 @@ unchanged_joined d same x e u j = record {
 pub copied_live : (x copy : DeltaState) → IsSame x copy → x.members.live ≡ copy.members.live
 copied_live x copy same = sym (says_the_same x.members copy.members same.conditions same.known).live
 
--- and what is joined with it is joined with the first
+-- a delta that is joined with a copy is joined with the original
 pub copy_joined : (d x copy e : DeltaState) → IsSame x copy → IsJoinOf d copy e → IsJoinOf d x e
 copy_joined d x copy e same j = record {
   members = record {
@@ -49,7 +49,7 @@ pub unchanged_agrees : (d same x : DeltaState) → IsUnchanged d same → Deltas
 unchanged_agrees d same x u agree = λ dot.
     subst (λ c. ConditionsAgree c (condition_of x.members dot)) (λ i. condition_at (map.get (sym u.members.live i) dot) (set.contains (sym u.members.known i) dot)) (agree dot)
 
--- as many dots are live in the join with either
+-- as many dots are live in the join with a copy as with the original
 pub same_cells : (d x copy : DeltaState) → IsSame x copy → cells_joined d.members copy.members ≡ cells_joined d.members x.members
 unfolding joined_dots
 same_cells d x copy same = λ i.
@@ -67,7 +67,7 @@ copy_room d x copy same room = record {
   runs = subst (λ n. n ≤ 65536) (same_runs d x copy same) room.runs;
 }
 
--- and what finds none as a copy finds none
+-- a copy that finds no room means that the original finds none
 pub copy_full : (d x copy : DeltaState) → IsSame x copy → IsTooFullFor d copy → IsTooFullFor d x
 copy_full d x copy same (inl many) = inl (subst (λ n. 16384 < n) (same_cells d x copy same) many)
 copy_full d x copy same (inr many) = inr (subst (λ n. 65536 < n) (same_runs d x copy same) many)

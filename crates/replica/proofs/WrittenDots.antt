@@ -1,4 +1,4 @@
--- Dots that are written one by one, in their order.
+-- Dots that are written one by one, in order.
 use Rattle.std.proofs.Common.{◌≡◌, ℕ, zero, suc, ◌+◌, ◌≤◌, ◌<◌, Bool, true, false, cond, ◌||◌, List, [], ◌∷◌, ◌++◌, length, get_or, take, map as each, Contains, Option, Some, None, if◌then◌else◌, inl, inr, refl, sym, ap, subst, ◌∙◌, arith, true≢false}
 use Rattle.std.specs.Prelude.{IsSome}
 use Rattle.std.specs.List.{All, find, list_any}
@@ -117,7 +117,7 @@ module _ (s : Members) (fields : DotFields) where
       at true h = refl
       at false h = absurd (true≢false (sym h))
 
-  -- so what is held comes before the dot at the next place
+  -- the held dots precede the dot at the next place
   pub written_before : (dots : List Dot) (i : ℕ) (d : Dot) (live : map.FinMap dot_cmp Holding) → DotsRise dots → i < length dots → d ≡ get_or dots i d
       → ((q : Dot) → map.get live q ≡ written_to s (take i dots) fields q) → (q : Dot) → IsSome (map.get live q) → dot_cmp q d ≡ Less
   written_before dots i d live rise l is same q h =

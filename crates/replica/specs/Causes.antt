@@ -1,4 +1,4 @@
--- What a change means, told by its cause: the queues of the site, the rows of the members that it knows of, and the limits.
+-- What a change means, by its cause: the queues of the site, the rows of the members that it knows of, and the limits.
 use Rattle.std.specs.Prelude.{ℕ, ◌≡◌, ◌⊎◌, true, false, List, Option, Some, None, IsSome}
 use Rattle.std.specs.Option.{option_map}
 use Rattle.dots.specs.declared.member.Member.{Member}
@@ -19,7 +19,7 @@ queue_named (RemoveMember queue interface) = Some queue
 queue_named (SetField queue interface setting) = queue
 queue_named (CountCall queue calls) = Some queue
 
--- a queue is named, and isn't in the list
+-- a change names a queue that isn't in the list
 abbrev pub IsUnlisted : List (List ℕ) → Option (List ℕ) → Type 0
 IsUnlisted names None = ⊥
 IsUnlisted names (Some queue) = number_of names queue ≡ None
@@ -49,7 +49,7 @@ IsForNone names k (RemoveMember queue interface) = IsNotThere names k (Some queu
 IsForNone names k (SetField queue interface setting) = IsNotThere names k queue interface
 IsForNone names k (CountCall queue calls) = ⊥
 
--- ---- what is asked for
+-- ---- the operation that is asked for
 
 -- the operation that a change asks for; `None` where it names a queue that isn't in the list
 abbrev pub operation_asked : ℕ → List (List ℕ) → SiteView → Change → Option Operation
@@ -78,14 +78,15 @@ pub record AsksTooMuch (site : ℕ) (names : List (List ℕ)) (k buffer : Knowle
   pub asked : IsAskedFor site names k change operation
   pub too_much : IsTooMuch (site_view site k) (site_view site buffer) operation
 
--- a change asks for an operation that isn't too much, and wants a count or a time past the greatest
+-- a change asks for an operation that isn't too much, and needs a count or a time past the greatest
 pub record AsksLateNumber (site : ℕ) (names : List (List ℕ)) (k buffer : Knowledge) (change : Change) : Type 0 where
   pub operation : Operation
   pub asked : IsAskedFor site names k change operation
   pub fits : IsTooMuch (site_view site k) (site_view site buffer) operation → ⊥
   pub exhausted : is_exhausted operation ≡ true
 
--- a change asks for an operation that isn't too much, wants no count and no time past the greatest, and wants a total past the greatest
+-- a change asks for an operation that isn't too much, needs no count and no time past the greatest, and needs a total past the
+-- greatest
 pub record AsksGreatTotal (site : ℕ) (names : List (List ℕ)) (k buffer : Knowledge) (change : Change) : Type 0 where
   pub operation : Operation
   pub asked : IsAskedFor site names k change operation
@@ -93,7 +94,7 @@ pub record AsksGreatTotal (site : ℕ) (names : List (List ℕ)) (k buffer : Kno
   pub numbers : is_exhausted operation ≡ false
   pub past_total : is_past_total operation ≡ true
 
--- a change asks for this operation, which isn't too much, and wants no count, no time and no total past the greatest
+-- a change asks for this operation, which isn't too much, and needs no count, no time and no total past the greatest
 pub record IsFreeToMake (site : ℕ) (names : List (List ℕ)) (k buffer : Knowledge) (change : Change) (o : Operation) : Type 0 where
   pub asked : IsAskedFor site names k change o
   pub fits : IsTooMuch (site_view site k) (site_view site buffer) o → ⊥
@@ -102,7 +103,7 @@ pub record IsFreeToMake (site : ℕ) (names : List (List ℕ)) (k buffer : Knowl
 
 -- ---- all causes
 
--- what each meaning of a change is caused by, be it a refusal or an operation, at a site of this knowledge and this buffer
+-- the cause of each meaning of a change, a refusal or an operation, at a site of this knowledge and this buffer
 abbrev pub IsCaused : ℕ → List (List ℕ) → Knowledge → Knowledge → Change → Meaning → Type 0
 IsCaused site names k buffer change (Refused NoSuchQueue) = IsUnlisted names (queue_named change)
 IsCaused site names k buffer change (Refused AlreadyThere) = IsAddedAgain names k change

@@ -1,5 +1,5 @@
--- What a command means (Asterisk's queue actions; the refusals and their order are this project's own): a refusal, or one
--- operation more. Counts and times are plain numbers here, so that a site is full before its numbers are used up.
+-- The meaning of a command (Asterisk's queue actions; the refusals and their order are this project's own): a refusal, or an
+-- operation to make. Counts and times are plain numbers here, so that a site is full before its numbers are used up.
 use Rattle.std.specs.Prelude.{ℕ, suc, max, Bool, false, ◌||◌, nat_lt, List, [], ◌∷◌, Option, Some, None, map as each, if◌then◌else◌}
 use Rattle.std.specs.FinSet as set
 use Rattle.dots.specs.declared.limits.TheConstants.{MOST_CALLS, MOST_COUNT, MOST_RUNS}
@@ -39,7 +39,7 @@ change_of (command.RingInUse queue interface ring) = SetField queue interface (S
 change_of (command.Completed queue) = CountCall queue Completed
 change_of (command.Abandoned queue) = CountCall queue Abandoned
 
--- what a command means: it is refused, or makes an operation
+-- the meaning of a command: it is refused, or makes an operation
 pub data Meaning : Type 0 where
   Refused : (refusal : Refusal) → Meaning
   Makes : (operation : Operation) → Meaning
@@ -80,7 +80,7 @@ remove_of dots = Remove (set.from_list (each (λ d. d.0) dots))
 abbrev pub count_at : ℕ → SiteView → ℕ → Calls → Operation
 count_at site r queue calls = Count site queue calls (suc (r.totals site queue calls))
 
--- whether what is read can't take an operation more: the visible dots or the runs of the known ones would be too many
+-- whether a site view is too full for one operation more: the visible dots or the runs of the known ones would be too many
 abbrev pub is_full : SiteView → Operation → Bool
 is_full r o = is_past_limits (visible_with r o) (known_with r o)
 
@@ -92,46 +92,47 @@ is_too_long o = nat_lt MOST_RUNS (run_count (known_dots (o ∷ [])))
 abbrev pub is_used_up : ℕ → Bool
 is_used_up n = nat_lt MOST_COUNT n
 
--- whether an operation wants a count or a time past the greatest
+-- whether an operation needs a count or a time past the greatest
 abbrev pub is_exhausted : Operation → Bool
 is_exhausted (Add dot member stamp penalty pause label older) = is_used_up dot.count || is_used_up stamp.time
 is_exhausted (Write dots setting stamp older) = is_used_up stamp.time
 is_exhausted (Remove dots) = false
 is_exhausted (Count site queue calls total) = false
 
--- whether it wants a total past the greatest
+-- whether an operation needs a total past the greatest
 abbrev pub is_past_total : Operation → Bool
 is_past_total (Add dot member stamp penalty pause label older) = false
 is_past_total (Write dots setting stamp older) = false
 is_past_total (Remove dots) = false
 is_past_total (Count site queue calls total) = nat_lt MOST_CALLS total
 
--- an operation within the limits of the knowledge and of the buffer, whose readings these are, is made; the refusals in their order
+-- the meaning of an operation at the views of the knowledge and of the buffer: it is made if it is within the limits; the refusals
+-- are in order
 abbrev pub within_limits : SiteView → SiteView → Operation → Meaning
 within_limits r buffer o =
     if is_full r o || (is_full buffer o || is_too_long o) then Refused MembersFull
     else if is_exhausted o then Refused Exhausted else if is_past_total o then Refused TotalFull else Makes o
 
--- in the queue of this number, where there is one
+-- the meaning in the queue of this number; `NoSuchQueue` if there is none
 abbrev pub in_queue : Option ℕ → (ℕ → Meaning) → Meaning
 in_queue None go = Refused NoSuchQueue
 in_queue (Some queue) go = go queue
 
--- where no dot is seen
+-- the meaning of an add if no dot of its member is seen; else `AlreadyThere`
 abbrev pub where_absent : List (Dot × Member) → Meaning → Meaning
 where_absent [] made = made
 where_absent (d ∷ ds) made = Refused AlreadyThere
 
--- where some dot is seen
+-- the meaning of a change if some dot is seen; else `NotThere`
 abbrev pub where_present : List (Dot × Member) → Meaning → Meaning
 where_present [] made = Refused NotThere
 where_present (d ∷ ds) made = made
 
--- a setting on the dots that are seen
+-- the meaning of a setting on the dots that are seen
 abbrev pub meaning_of_setting : ℕ → SiteView → SiteView → Setting → List (Dot × Member) → Meaning
 meaning_of_setting site r buffer setting dots = where_present dots (within_limits r buffer (write_at site r setting dots))
 
--- what a change means at a site that has these queues, reads this of its knowledge, and this of its buffer
+-- the meaning of a change at a site with these queues, with these views of its knowledge and of its buffer
 abbrev pub meaning : ℕ → List (List ℕ) → SiteView → SiteView → Change → Meaning
 meaning site names r buffer (AddMember queue interface penalty paused label) = in_queue (number_of names queue) (λ q.
     where_absent (dots_seen r.dots (Some q) interface)

@@ -1,4 +1,4 @@
--- What a command does to a site, and what it is refused for.
+-- The effect of a command on a site, and its refusals.
 use Rattle.std.specs.Prelude.{⊤, ℕ, ◌≡◌, ◌⊎◌, max, Bool, true, Option, Result, Ok, Err, List, [], ◌∷◌, map as each}
 use Rattle.dots.specs.declared.label.Label.{Label}
 use Rattle.dots.specs.declared.member.Member.{Member}
@@ -32,12 +32,12 @@ pub record HasMade (old : SiteState) (o : Operation) (new : SiteState) : Type 0 
   pub last_time : new.last_time ≡ max (time_used old.site o) old.last_time
   pub frames : new.frames ≡ old.frames
 
--- a result, and the site after it, are what is meant: an operation was made, or the command was refused and changed nothing
+-- a result, and the site after it, follow the meaning: an operation was made, or the command was refused and changed nothing
 abbrev pub Follows : SiteState → Meaning → SiteState → Result (Unit {0}) Refusal → Type 0
 Follows old (Makes o) new result = (result ≡ Ok tt) × HasMade old o new
 Follows old (Refused refusal) new result = (result ≡ Err refusal) × IsUnchanged old new
 
--- what is meant may want memory: all but the refusals that are told without any
+-- a meaning may run out of memory: all but the refusals that take none
 abbrev pub MayWantMemory : Meaning → Type 0
 MayWantMemory (Refused NoSuchQueue) = ⊥
 MayWantMemory (Refused AlreadyThere) = ⊥
@@ -45,20 +45,20 @@ MayWantMemory (Refused NotThere) = ⊥
 MayWantMemory (Refused TotalFull) = ⊥
 MayWantMemory meant = ⊤
 
--- what is meant comes of a command; or memory is wanting, where what is meant may want some, and nothing is changed
+-- a command follows its meaning; or it runs out of memory, where its meaning may, and nothing is changed
 abbrev pub IsDone : SiteState → Meaning → SiteState → Result (Unit {0}) Refusal → Type 0
 IsDone old meant new result = Follows old meant new result ⊎ (IsUnchanged old new × (result ≡ Err Memory) × MayWantMemory meant)
 
--- what is told where no number is left for an operation: the refusal that is meant, or that memory is wanting
+-- the refusal of an operation for which no number is left: the one of its meaning, or out of memory
 abbrev pub IsToldOf : SiteState → Operation → Refusal → Type 0
 IsToldOf s o refusal = (refusal ≡ Memory) ⊎ (within_limits (view_of s s.state) (view_of s s.pending) o ≡ Refused refusal)
 
--- so it is of each add that wants a number past the greatest
+-- each add that needs a number past the greatest has this refusal
 abbrev pub IsToldOfAdds : SiteState → Refusal → Type 0
 IsToldOfAdds s refusal = (member : Member) (penalty : ℕ) (paused : Bool) (label : Label) → let o = add_at s.site (view_of s s.state) member penalty paused label in
     is_exhausted o ≡ true → IsToldOf s o refusal
 
--- and of each write on these dots that does
+-- each write on these dots that needs a number past the greatest has this refusal
 abbrev pub IsToldOfWrites : SiteState → List Dot → Refusal → Type 0
 IsToldOfWrites s dots refusal = (queue : Option ℕ) (interface : List ℕ) (setting : Setting) → let seen = dots_seen (view_of s s.state).dots queue interface in
     dots ≡ each (λ p. p.0) seen → let o = write_at s.site (view_of s s.state) setting seen in is_exhausted o ≡ true → IsToldOf s o refusal

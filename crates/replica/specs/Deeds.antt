@@ -1,4 +1,4 @@
--- Deeds: what was done at a site, told by its state before it and after it alone.
+-- Deeds: what was done at a site, by its state before and after it alone.
 use Rattle.std.specs.Prelude.{◌≡◌, ◌<◌}
 use Rattle.dots.specs.declared.limits.TheConstants.{MOST_COUNT}
 use Rattle.delta.specs.DeltaStates.{DeltaState, IsEmpty}

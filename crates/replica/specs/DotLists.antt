@@ -5,7 +5,7 @@ use Rattle.dots.specs.Orders.{dot_cmp}
 use Rattle.operations.specs.Rows.{DotView, dots_of}
 use Rattle.general_lemmas.specs.SortedEntries.{IsRising}
 
--- the dots rise: none comes twice, and the lesser before the greater
+-- the dots are in ascending order, without duplicates
 abbrev pub DotsRise : List Dot → Type 0
 DotsRise dots = IsRising dot_cmp (each (λ dot. (dot, tt {0})) dots)
 

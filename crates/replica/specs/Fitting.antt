@@ -17,7 +17,7 @@ pub record HasRoomFor (d x : DeltaState) : Type 0 where
   pub cells : cells_joined d.members x.members ≤ MOST_LIVE
   pub runs : runs_joined d.members x.members ≤ MOST_RUNS
 
--- it can't: there are too many live dots, or too many runs
+-- a delta can't take a change: there would be too many live dots, or too many runs
 abbrev pub IsTooFullFor : DeltaState → DeltaState → Type 0
 IsTooFullFor d x = (MOST_LIVE < cells_joined d.members x.members) ⊎ (MOST_RUNS < runs_joined d.members x.members)
 
@@ -27,7 +27,8 @@ pub record TakesIn (old x new : DeltaState) : Type 0 where
   pub ids : KeepsIds old.members new.members
   pub room : HasRoomFor old x
 
--- what comes of a change that two deltas are to take: both take it in, or both stay as they are, since one of them would be too full, or for want of memory
+-- the result of a change that two deltas are to take: both take it, or both stay as they are, since one of them would be too full
+-- or memory ran out
 abbrev pub BothTakeIn : DeltaState → DeltaState → DeltaState → DeltaState → DeltaState → Result (Unit {0}) Refusal → Type 0
 BothTakeIn old other x new after (Ok u) = TakesIn old x new × TakesIn other x after
 BothTakeIn old other x new after (Err MembersFull) = (IsUnchanged old new × IsUnchanged other after) × (IsTooFullFor old x ⊎ IsTooFullFor other x)
@@ -38,7 +39,8 @@ BothTakeIn old other x new after (Err NotThere) = ⊥
 BothTakeIn old other x new after (Err Exhausted) = ⊥
 BothTakeIn old other x new after (Err TotalFull) = ⊥
 
--- whether a delta has too many live dots or runs, once some dots are dead there, so many others are live, and one dot is known besides
+-- whether a delta would have too many live dots or runs, if some dots were dead there, `more` others were live, and one more dot
+-- were known
 abbrev pub is_past_with : DeltaState → set.FinSet dot_cmp → ℕ → Dot → Bool
 is_past_with d dead more dot =
     nat_lt MOST_LIVE (set.len (live_dots_without d.members dead) + more) || nat_lt MOST_RUNS (run_count (set.insert (set.union d.members.known dead) dot))

@@ -1,4 +1,4 @@
--- What is small enough for a frame, step by step.
+-- Knowledges that are small enough for a frame, step by step.
 use Rattle.std.specs.Prelude.{ℕ, ⊤, List}
 use Rattle.dots.specs.Values.{IsCount}
 use Rattle.operations.specs.FrameLimits.{IsSmallEnough}

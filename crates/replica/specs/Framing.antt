@@ -1,4 +1,4 @@
--- What a site is once it has made a frame, and what a frame says.
+-- A site after it has made a frame, and what the frame says.
 use Rattle.std.specs.Prelude.{suc, ⊤, ◌≡◌, Option, Some, None, Result, Ok, Err}
 use Rattle.operations.specs.Knowledge.{Knowledge}
 use Rattle.delta.specs.DeltaStates.{IsEmpty, IsSame}
@@ -15,7 +15,7 @@ pub record IsNextOf (s : SiteState) (frame : Frame) : Type 0 where
   pub maker : frame.maker ≡ s.site
   pub number : frame.number ≡ suc s.frames
 
--- a site has put its buffer into its next frame: the buffer is empty, with no place that isn't used again, and all else is as before
+-- a site has put its buffer into its next frame: the buffer is empty, without retired places, and everything else is as before
 pub record HasCut (old : SiteState) (frame : Frame) (new : SiteState) : Type 0 where
   pub heading : IsNextOf old frame
   pub delta : frame.delta ≡ old.pending
@@ -47,13 +47,14 @@ pub record IsFramed (frame : Frame) (outcome : Outcome) : Type 0 where
   pub outcome_is : outcome ≡ Framed frame.number says
   pub stands : IsDeltaOf frame.delta says
 
--- what comes of a frame that is asked for, where there is something to say; of want of memory the meaning knows nothing
+-- the result of a frame that is asked for is its outcome by the meaning, where there is something to say; the meaning leaves out of
+-- memory open
 abbrev pub IsMeantFrame : SiteState → Result Frame CutFault → SiteKnowledge × Outcome → Type 0
 IsMeantFrame new (Ok frame) after = StandsFor new after.0 × IsFramed frame after.1
 IsMeantFrame new (Err Exhausted) after = StandsFor new after.0 × (after.1 ≡ NoNumber)
 IsMeantFrame new (Err Memory) after = ⊤
 
--- what comes of a cut, which wants no memory: that, or nothing where there is nothing to say
+-- the result of a cut is its outcome by the meaning, which takes no memory: a frame, or nothing where there is nothing to say
 abbrev pub IsMeantCut : SiteState → Result (Option Frame) CutFault → SiteKnowledge × Outcome → Type 0
 IsMeantCut new (Ok None) after = StandsFor new after.0 × (after.1 ≡ Nothing)
 IsMeantCut new (Ok (Some frame)) after = StandsFor new after.0 × IsFramed frame after.1

@@ -1,4 +1,4 @@
--- What holds of every replica, whatever frames it has taken.
+-- The invariant of every replica, whatever frames it has taken.
 use Rattle.std.specs.Prelude.{ℕ, ◌≡◌, ◌≤◌, ◌<◌, nat_le, Option, Some, length}
 use Rattle.std.specs.FinMap as map
 use Rattle.std.specs.FinSet as set
@@ -19,14 +19,14 @@ use Rattle.replica.specs.SiteViews.{own_time}
 abbrev pub IsWrittenBy : {T : Type 0} → ℕ → ℕ → Option (Entry T) → Type 0
 IsWrittenBy {T} site time field = (entry : Entry T) → field ≡ Some entry → own_time site entry.stamp ≤ time
 
--- each field of a dot was
+-- each field of a dot was written by a site at a time up to this one, or by another site
 pub record AreWrittenBy (site time : ℕ) (fields : DotFields) : Type 0 where
   pub penalty : IsWrittenBy site time fields.penalty
   pub pause : IsWrittenBy site time fields.pause
   pub label : IsWrittenBy site time fields.label
   pub ring : IsWrittenBy site time fields.ring
 
--- a delta is below another: so is each condition, and no total is greater
+-- a delta is below another: each condition is, and no total is greater
 pub record IsBelow (d e : DeltaState) : Type 0 where
   pub conditions : (dot : Dot) → IsConditionBelow (condition_of d.members dot) (condition_of e.members dot)
   pub totals : (site queue : ℕ) (calls : Calls) → number_of calls (totals_of d.totals.entries site queue) ≤ number_of calls (totals_of e.totals.entries site queue)
@@ -40,7 +40,7 @@ pub record AreInQueues (queues : ℕ) (d : DeltaState) : Type 0 where
 abbrev pub HasOwnDots : ℕ → ℕ → DeltaState → Type 0
 HasOwnDots site last d = (count : ℕ) → 1 ≤ count → set.contains d.members.known (record { site = site; count = count }) ≡ nat_le count last
 
--- its own stamps in a delta are of times up to its last one
+-- a site's own stamps in a delta are of times up to its last one
 abbrev pub HasOwnStamps : ℕ → ℕ → DeltaState → Type 0
 HasOwnStamps site last d = (dot : Dot) (h : Holding) → map.get d.members.live dot ≡ Some h → AreWrittenBy site last h.1
 

@@ -1,5 +1,5 @@
--- What a site may make of what it knows: its dots, times and totals go on from its own, and what it writes and removes is visible to it (RR-8083: a remove names the
--- tags that were observed; the numbers and the older dots are this project's own).
+-- The operations that a site may make: its dots, times and totals go on from its own, and what it writes and removes is visible to
+-- it (RR-8083: a remove names the tags that were observed).
 use Rattle.std.specs.Prelude.{ℕ, suc, ◌≡◌, ◌<◌, ◌&&◌, true, List, [], ◌∷◌, Some, Contains, length, map as each}
 use Rattle.std.specs.FinSet as set
 use Rattle.dots.specs.declared.calls.Calls.{Calls}
@@ -21,8 +21,8 @@ pub record IsAddAt (site : ℕ) (names : List (List ℕ)) (k : Knowledge) (dot :
   pub absent : (d : Dot) → set.contains (visible_dots k) d ≡ true → member_of k d ≡ Some member → ⊥
   pub older_are : (d : Dot) → set.contains older d ≡ (is_named k d && is_older (dot ∷ []) d)
 
--- A write that it may make: on dots that it sees with these members, and with each member all of them that it sees; at a time of its own after all that it has used,
--- and the dead dots of their sites with lesser counts.
+-- A write that a site of this number may make: on dots that it sees with these members, and with each member all of them that it
+-- sees; at a time of its own after all that it has used, and the dead dots of their sites with lesser counts.
 pub record IsWriteAt (site : ℕ) (k : Knowledge) (dots : List (Dot × Member)) (stamp : Stamp) (older : set.FinSet dot_cmp) : Type 0 where
   pub seen : (d : Dot) (m : Member) → Contains dots (d, m) → (set.contains (visible_dots k) d ≡ true) × (member_of k d ≡ Some m)
   pub all : (d other : Dot) (m : Member) → Contains dots (d, m) → set.contains (visible_dots k) other ≡ true → member_of k other ≡ Some m → Contains dots (other, m)
@@ -30,14 +30,14 @@ pub record IsWriteAt (site : ℕ) (k : Knowledge) (dots : List (Dot × Member)) 
   pub later : greatest (time_used site) k < stamp.time
   pub older_are : (d : Dot) → set.contains older d ≡ (is_named k d && is_older (each (λ p. p.0) dots) d)
 
--- a remove that it may make: of all dots of one member that it sees, and of no others
+-- a remove that a site may make: of all dots of one member that it sees, and of no others
 pub record IsRemoveAt (k : Knowledge) (dots : set.FinSet dot_cmp) : Type 0 where
   pub member : Member
   pub seen : (d : Dot) → set.contains dots d ≡ true → set.contains (visible_dots k) d ≡ true
   pub only : (d : Dot) → set.contains dots d ≡ true → member_of k d ≡ Some member
   pub all : (d : Dot) → set.contains (visible_dots k) d ≡ true → member_of k d ≡ Some member → set.contains dots d ≡ true
 
--- a count that it may make: its own, of a queue in the list, and one more than it has counted
+-- a count that a site may make: its own, of a queue in the list, and one more than it has counted
 pub record IsCountAt (site : ℕ) (names : List (List ℕ)) (k : Knowledge) (s queue : ℕ) (calls : Calls) (total : ℕ) : Type 0 where
   pub site_is : s ≡ site
   pub queue_is : queue < length names

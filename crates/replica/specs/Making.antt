@@ -1,16 +1,17 @@
--- What comes of a change that a site makes.
+-- The result of a change that a site makes.
 use Rattle.std.specs.Prelude.{ℕ, ◌≡◌, Result, OnOk, OnErr}
 use Rattle.delta.specs.DeltaStates.{DeltaState}
 use Rattle.replica.specs.declared.refusal.Refusal.{Refusal}
 use Rattle.replica.specs.Fitting.{BothTakeIn}
 use Rattle.replica.specs.Site.{SiteState}
 
--- these are the last numbers of a site
+-- a site has these last numbers
 pub record HasNumbers (s : SiteState) (count time : ℕ) : Type 0 where
   pub last_count : s.last_count ≡ count
   pub last_time : s.last_time ≡ time
 
--- State and buffer take the change in, or neither does; and then its numbers are the last ones, or the numbers stay.
+-- State and buffer both take the change, or neither does; in the first case the last numbers are those of the change, else they
+-- stay.
 pub record IsMade (old : SiteState) (change : DeltaState) (count time : ℕ) (new : SiteState) (result : Result (Unit {0}) Refusal) : Type 0 where
   pub site : new.site ≡ old.site
   pub names : new.names ≡ old.names

@@ -1,4 +1,4 @@
--- What is to be made of a command before anything is changed.
+-- The plan of a command, before anything is changed.
 use Rattle.std.specs.Prelude.{◌≡◌, ◌⊎◌, max, false, Result, Ok, Err, [], ◌∷◌}
 use Rattle.operations.specs.Operations.{Operation}
 use Rattle.member_orset.specs.Members.{IsWithinLimits}
@@ -12,8 +12,8 @@ use Rattle.replica.specs.Commands.{MayWantMemory}
 use Rattle.replica.specs.Site.{SiteState, view_of}
 use Rattle.replica.specs.SiteViews.{count_used, time_used}
 
--- A planned change is that of one operation, which is made where there is room for it: what is meant is this operation within the limits, its numbers are
--- left, it comes with the site's last numbers after it, and it may be made by the site.
+-- A planned change is that of one operation: the meaning is this operation within the limits, its numbers are left, the plan has
+-- the site's last numbers after it, and the site may make it. It is made if there is room for it.
 pub record IsPlan (s : SiteState) (meant : Meaning) (planned : Planned) : Type 0 where
   pub operation : Operation
   pub means : meant ≡ within_limits (view_of s s.state) (view_of s s.pending) operation
@@ -25,11 +25,11 @@ pub record IsPlan (s : SiteState) (meant : Meaning) (planned : Planned) : Type 0
   pub change : IsChangeOf s planned.count planned.time planned.change
   pub limits : IsWithinLimits planned.change.members
 
--- why nothing is planned for a meaning: the refusal that is meant, or that memory is wanting, where what is meant may want some
+-- why nothing is planned for a meaning: its refusal, or out of memory, where the meaning may run out of it
 abbrev pub IsUnplanned : Meaning → Refusal → Type 0
 IsUnplanned meant refusal = ((refusal ≡ Memory) × MayWantMemory meant) ⊎ (meant ≡ Refused refusal)
 
--- what is planned for a meaning, or why nothing is
+-- the plan of a meaning, or why there is none
 abbrev pub IsPlanned : SiteState → Meaning → Result Planned Refusal → Type 0
 IsPlanned s meant (Ok planned) = IsPlan s meant planned
 IsPlanned s meant (Err refusal) = IsUnplanned meant refusal

@@ -1,4 +1,4 @@
--- What the definitions of commands and steps promise.
+-- Promises of the definitions of commands and steps, as statements that the laws prove.
 use Rattle.std.specs.Prelude.{ℕ, ⊤, ◌≡◌, Option, List, ◌∷◌, ◌&&◌}
 use Rattle.std.specs.FinSet as set
 use Rattle.dots.specs.DotSets.{is_older}
@@ -16,7 +16,7 @@ use Rattle.replica.specs.Queues.{AreQueues}
 use Rattle.replica.specs.SiteViews.{SiteView, site_view, dots_seen, older_dots, visible_with, known_with}
 use Rattle.replica.specs.Steps.{SiteKnowledge, Step, Denied, NoNumber, Nothing, CellsFull, RunsFull, step}
 
--- what a site view says of one operation more is what is seen of the knowledge that has it
+-- the site view for one operation more is that of the knowledge with that operation
 pub record ForeseesOneMore (site : ℕ) (k : Knowledge) (o : Operation) : Type 0 where
   pub visible : visible_with (site_view site k) o ≡ visible_dots (o ∷ k)
   pub known : known_with (site_view site k) o ≡ known_dots (o ∷ k)
@@ -31,7 +31,7 @@ MeansTheSame = (site : ℕ) (names : List (List ℕ)) (change : Change) (k l buf
     → IsConsistent buffer → SameOperations buffer other
     → meaning site names (site_view site k) (site_view site buffer) change ≡ meaning site names (site_view site l) (site_view site other) change
 
--- What sites read is alike: their dots show alike, and known dots, totals and last numbers are the same.
+-- Site views are alike: their dots show the same, and known dots, totals and last numbers are the same.
 pub record AreAlike (r s : SiteView) : Type 0 where
   pub dots : ShowAlike r.dots s.dots
   pub known : r.known ≡ s.known
@@ -39,12 +39,12 @@ pub record AreAlike (r s : SiteView) : Type 0 where
   pub last_count : r.last_count ≡ s.last_count
   pub last_time : r.last_time ≡ s.last_time
 
--- What two buffers read is as full: the same dots are visible, and the same known. Nothing else is asked of a buffer.
+-- The views of two buffers are as full: the same dots are visible, and the same known. Nothing else is asked of a buffer.
 pub record AreAsFull (r s : SiteView) : Type 0 where
   pub visible : r.dots.visible ≡ s.dots.visible
   pub known : r.known ≡ s.known
 
--- where what is read of knowledges is alike, and buffers are as full, a command goes over the same dots and means the same
+-- if site views of knowledges are alike, and buffers are as full, a command is for the same dots and means the same
 pub record MeansTheSameAlike (r s buffer other : SiteView) : Type 0 where
   pub seen : (queue : Option ℕ) (interface : List ℕ) → dots_seen r.dots queue interface ≡ dots_seen s.dots queue interface
   pub meanings : (site : ℕ) (names : List (List ℕ)) (change : Change) → meaning site names r buffer change ≡ meaning site names s other change
@@ -64,11 +64,11 @@ IsChange (RemoveMember queue interface) = IsName interface
 IsChange (SetField queue interface setting) = IsName interface × IsSetting setting
 IsChange (CountCall queue calls) = ⊤
 
--- what such a change makes, at a site whose operations are all within their limits, is within its limits
+-- a change of values within their limits, at a site whose operations are all within theirs, makes an operation within its limits
 abbrev pub MakesWithinLimits : Type 0
 MakesWithinLimits = (site : ℕ) (names : List (List ℕ)) (change : Change) (k buffer : Knowledge) (o : Operation) → IsSite site → AreQueues names → IsChange change
     → AreWithinLimits k → meaning site names (site_view site k) (site_view site buffer) change ≡ Makes o → IsWithinLimits o
 
--- each operation that a change makes leaves a trace, whatever is read
+-- each operation that a change makes leaves a trace, at every site view
 abbrev pub MakesTraces : Type 0
 MakesTraces = (site : ℕ) (names : List (List ℕ)) (change : Change) (r buffer : SiteView) (o : Operation) → meaning site names r buffer change ≡ Makes o → LeavesTrace o

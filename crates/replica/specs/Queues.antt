@@ -9,7 +9,7 @@ use Rattle.dots.specs.Values.{IsName}
 abbrev pub AreDistinct : List (List ℕ) → Type 0
 AreDistinct names = AllPairs (λ a b. a ≢ b) names
 
--- a list of queues has from 1 to 256 texts that may be names, no two of them the same
+-- a list of queues has from 1 to 256 distinct names
 pub record AreQueues (names : List (List ℕ)) : Type 0 where
   pub some : 0 < length names
   pub few : length names ≤ QUEUES

@@ -1,4 +1,5 @@
--- The parts of a replica, as a store keeps them: what they must keep, for which causes they are refused, and what replica they make.
+-- The parts of a replica, as a store keeps them: their invariant, the causes for which they are refused, and the replica that they
+-- make.
 use Rattle.std.specs.Prelude.{ℕ, ⊤, ◌≡◌, ◌≤◌, ◌<◌, ◌⊎◌, List, length}
 use Rattle.dots.specs.declared.limits.TheConstants.{MOST_COUNT, MOST_LIVE, MOST_RUNS}
 use Rattle.member_orset.specs.Members.{cells_joined, runs_joined}
@@ -24,7 +25,7 @@ parts_of site names state pending last = record {
   frames = last.2;
 }
 
--- ---- what the parts must keep
+-- ---- the invariant of the parts
 
 -- the last numbers are at most 2^40
 pub record HasSmallNumbers (s : SiteState) : Type 0 where
@@ -37,26 +38,26 @@ pub record HasItsDots (s : SiteState) : Type 0 where
   pub state : HasOwnDots s.site s.last_count s.state
   pub pending : HasDotPast s.site s.last_count s.pending.members.known → ⊥
 
--- the site's own stamps in both are of times up to its last
+-- the site's own stamps in the state and the buffer are of times up to its last
 pub record HasItsStamps (s : SiteState) : Type 0 where
   pub state : HasOwnStamps s.site s.last_time s.state
   pub pending : HasOwnStamps s.site s.last_time s.pending
 
--- both are of queues of the list
+-- the state and the buffer are of queues of the list
 pub record HasItsQueues (s : SiteState) : Type 0 where
   pub state : AreInQueues (length s.names) s.state
   pub pending : AreInQueues (length s.names) s.pending
 
--- the parts keep all of these
+-- the parts keep the invariant
 pub record IsSound (s : SiteState) : Type 0 where
   pub numbers : HasSmallNumbers s
   pub dots : HasItsDots s
   pub stamps : HasItsStamps s
   pub queues : HasItsQueues s
 
--- ---- the refusals, in their order
+-- ---- the refusals, in order
 
--- what these parts lack, by the fault, where no cause before it stands
+-- the part of the invariant that these parts lack, by the fault, where no cause before it applies
 abbrev pub IsPartCause : SiteState → RestoreFault → Type 0
 IsPartCause s NumberTooLarge = HasSmallNumbers s → ⊥
 IsPartCause s OwnDots = HasSmallNumbers s × (HasItsDots s → ⊥)
@@ -67,7 +68,7 @@ IsPartCause s CellsFull = ⊥
 IsPartCause s RunsFull = ⊥
 IsPartCause s Memory = ⊥
 
--- why a buffer can't be joined into a state, by the fault; `Memory` has no cause here
+-- the cause why a buffer can't be joined into a state, by the fault; `Memory` has no cause here
 abbrev pub IsJoinCause : DeltaState → DeltaState → RestoreFault → Type 0
 IsJoinCause state pending Conflict = DeltasInConflict state pending
 IsJoinCause state pending CellsFull = DeltasAgree state pending × (MOST_LIVE < cells_joined state.members pending.members)
@@ -80,18 +81,19 @@ IsJoinCause state pending OwnDots = ⊥
 IsJoinCause state pending OwnStamps = ⊥
 IsJoinCause state pending NoSuchQueue = ⊥
 
--- parts are refused for this cause: they lack it, or they are sound and the buffer can't be joined into the state
+-- parts are refused for this cause: they lack a part of the invariant, or they keep it and the buffer can't be joined into the
+-- state
 abbrev pub IsRestoreCause : SiteState → RestoreFault → Type 0
 IsRestoreCause s fault = IsPartCause s fault ⊎ (IsSound s × IsJoinCause s.state s.pending fault)
 
--- why parts are refused whose buffer can't be joined into their state
+-- the fault of a restore for a buffer that can't be joined into the state
 abbrev pub restore_fault_of : JoinFault → RestoreFault
 restore_fault_of join.Conflict = Conflict
 restore_fault_of join.CellsFull = CellsFull
 restore_fault_of join.RunsFull = RunsFull
 restore_fault_of join.Memory = Memory
 
--- ---- what replica they make
+-- ---- the replica that they make
 
 -- a replica is made of these parts: its state is theirs with their buffer joined into it, and all else is as theirs
 pub record IsRestored (s r : SiteState) : Type 0 where

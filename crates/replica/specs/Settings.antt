@@ -1,4 +1,4 @@
--- What a setting that a command makes means.
+-- The fields of a setting of a command.
 use Rattle.operations.specs.Operations.{Setting, SetPause, SetPenalty, SetRing}
 use Rattle.replica.specs.declared.setting.Setting.{Setting as SettingMade}
 use Rattle.replica.specs.declared.setting.Setting.TheVariants.{Penalty, Pause, Ring}

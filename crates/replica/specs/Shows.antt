@@ -1,4 +1,5 @@
--- What a command that is done shows from then on: the row of the member that it is of, or the total that it counts; all else is shown as it was.
+-- The effect of a command that is done: on the row of the member that it is for, or on the total that it counts; everything else is
+-- shown as before.
 use Rattle.std.specs.Prelude.{ℕ, suc, ◌≡◌, ◌≢◌, ◌⊎◌, Bool, true, List, [], Option, Some, None, IsSome}
 use Rattle.std.specs.Option.{option_map}
 use Rattle.dots.specs.declared.calls.Calls.{Calls}
@@ -44,7 +45,7 @@ abbrev pub IsSetOn : List (List ℕ) → Option (List ℕ) → List ℕ → Memb
 IsSetOn names None interface member = member.interface ≡ interface
 IsSetOn names (Some queue) interface member = (number_of names queue ≡ Some member.queue) × (member.interface ≡ interface)
 
--- ---- what commands show, by the knowledges before and after them
+-- ---- the effects of commands, by the knowledges before and after them
 
 -- every total of calls is what it was
 abbrev pub KeepsTotals : Knowledge → Knowledge → Type 0
@@ -76,8 +77,8 @@ pub record ShowsSetting (names : List (List ℕ)) (old new : Knowledge) (queue :
   pub others : (other : Member) → (IsSetOn names queue interface other → ⊥) → row_in new other ≡ row_in old other
   pub totals : KeepsTotals old new
 
--- A call that is counted at a site, in the queue of this name: the site's total of these calls is one more there, and so is the queue's; each other total, of another
--- site, in another queue or of other calls, is what it was, and so is each row.
+-- A call that is counted at a site, in the queue of this name: the site's total of these calls is one more there, and so is the
+-- queue's; each other total, of another site, in another queue or of other calls, is what it was, and so is each row.
 pub record ShowsCount (site : ℕ) (names : List (List ℕ)) (old new : Knowledge) (queue : List ℕ) (calls : Calls) : Type 0 where
   pub number : ℕ
   pub in_list : number_of names queue ≡ Some number
@@ -86,7 +87,7 @@ pub record ShowsCount (site : ℕ) (names : List (List ℕ)) (old new : Knowledg
   pub other_totals : (s q : ℕ) (c : Calls) → (s ≢ site) ⊎ (q ≢ number) ⊎ (c ≢ calls) → site_total new s q c ≡ site_total old s q c
   pub rows : (member : Member) → row_in new member ≡ row_in old member
 
--- each command, by what it says
+-- the effect of each command
 abbrev pub Shows : ℕ → List (List ℕ) → Command → Knowledge → Knowledge → Type 0
 Shows site names (command.Add queue interface penalty paused label) old new = ShowsAdd names old new queue interface penalty paused label
 Shows site names (command.Remove queue interface) old new = ShowsRemove names old new queue interface
@@ -98,7 +99,7 @@ Shows site names (command.Abandoned queue) old new = ShowsCount site names old n
 
 -- ---- what a site knows of its own dots
 
--- Of its own dots a site knows none past the last that it made, so that the dot of its next add is known to no operation yet. It is so of what each replica stands
--- for, and of each site of a world that events lead to.
+-- A site knows none of its own dots past the last that it made, so that no operation knows the dot of its next add yet. This holds
+-- of what each replica stands for, and of each site of a world that events lead to.
 abbrev pub KnowsNonePast : ℕ → Knowledge → Type 0
 KnowsNonePast site k = HasDotPast site (greatest (count_used site) k) (known_dots k) → ⊥

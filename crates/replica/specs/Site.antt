@@ -1,5 +1,5 @@
--- What contracts see of a replica: the site and its queues, what it knows and what of its own it has put in no frame yet, each
--- a delta, and the last numbers that it used.
+-- What contracts see of a replica: the site and its queues, its state and its buffer, each a delta, and the last numbers that it
+-- used.
 use Rattle.std.specs.Prelude.{ℕ, ◌≡◌, List, refl}
 use Rattle.std.specs.Coded.{Coded, code_by, coded×, coded_ℕ, coded_list}
 use Rattle.dots.specs.declared.call_totals.CallTotals.{CallTotals}
@@ -12,8 +12,8 @@ use Rattle.delta.specs.DeltaStates.{DeltaState, delta_code}
 use Rattle.replica.specs.Changes.{Change, Meaning, meaning}
 use Rattle.replica.specs.SiteViews.{SiteView}
 
--- A site: its number, the names of its queues, all that it knows, what of its own is in no frame yet, the count of its last add, the
--- time of its last add or write, and the number of its last frame, each 0 before the first.
+-- A site: its number, the names of its queues, its state, its buffer, the count of its last add, the time of its last add or write,
+-- and the number of its last frame, each 0 before the first.
 pub record SiteState : Type 0 where
   pub site : ℕ
   pub names : List (List ℕ)
@@ -32,7 +32,7 @@ site_code =
     (λ p. record { site = p.0; names = p.1.0; state = p.1.1.0; pending = p.1.1.1.0; last_count = p.1.1.1.1.0; last_time = p.1.1.1.1.1.0; frames = p.1.1.1.1.1.1 })
     (λ _. refl)
 
--- what a site reads of a delta, beside its last numbers
+-- the site view of a delta, with the site's last numbers
 abbrev pub view_of : SiteState → DeltaState → SiteView
 view_of s d = record {
   dots = dot_view_of d.members;
@@ -42,7 +42,7 @@ view_of s d = record {
   last_time = s.last_time;
 }
 
--- what a change means at a site: the same meaning of commands, over what is read of its deltas
+-- the meaning of a change at a site, by the views of its deltas
 abbrev pub meaning_at : SiteState → Change → Meaning
 meaning_at s change = meaning s.site s.names (view_of s s.state) (view_of s s.pending) change
 
@@ -54,7 +54,7 @@ rows_of s queue = rows_read (dot_view_of s.state.members) queue
 abbrev pub sums_of : SiteState → ℕ → CallTotals
 sums_of s queue = sum_of s.state.totals.entries queue
 
--- a site says the same as before; of the rooms of its deltas nothing is said
+-- a site says the same as before; the room of its deltas may differ
 pub record IsUnchanged (old new : SiteState) : Type 0 where
   pub site : new.site ≡ old.site
   pub names : new.names ≡ old.names

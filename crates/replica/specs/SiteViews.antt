@@ -1,5 +1,5 @@
--- What a site reads of what it knows before it does a command. Commands are given their meaning over this alone, so it is
--- one for the knowledge of a site and for what stands for it.
+-- The site view: what a site reads of its knowledge before it does a command. The meaning of commands depends on this view alone,
+-- so it is the same for the knowledge of a site and for a state that stands for it.
 use Rattle.std.specs.Prelude.{ℕ, max, Bool, not, ◌&&◌, ◌||◌, nat_lt, nat_eq, List, [], ◌∷◌, Option, Some, None, map as each, bytes_eq, if◌then◌else◌}
 use Rattle.std.specs.Option.{option_and_then}
 use Rattle.std.specs.List.{filter_map}
@@ -16,8 +16,8 @@ use Rattle.general_lemmas.specs.SetItems.{in_order}
 use Rattle.operations.specs.Rows.{DotView, dot_view, dots_of}
 use Rattle.operations.specs.Counts.{site_total}
 
--- the dots that are read and those that are known at all, the totals of each site, queue and kind of calls, and the greatest
--- count and time that the site has used for an operation of its own; 0 where it has used none
+-- a site view: the visible dots and the known ones, the totals of each site, queue and kind of calls, and the greatest count and
+-- time that the site has used for an operation of its own; 0 if it has used none
 pub record SiteView : Type 0 where
   pub dots : DotView
   pub known : set.FinSet dot_cmp
@@ -48,7 +48,7 @@ abbrev pub greatest : {X : Type 0} → (X → ℕ) → List X → ℕ
 greatest f [] = 0
 greatest f (x ∷ xs) = max (f x) (greatest f xs)
 
--- what a site reads of a knowledge
+-- the site view of a knowledge
 abbrev pub site_view : ℕ → Knowledge → SiteView
 site_view site k = record {
   dots = dot_view k;
@@ -62,7 +62,7 @@ site_view site k = record {
 abbrev pub is_dead : SiteView → Dot → Bool
 is_dead r dot = set.contains r.known dot && not (set.contains r.dots.visible dot)
 
--- the dead dots of the sites of these dots, with lesser counts: what an add and a write of these dots also name
+-- the dead dots of the sites of these dots, with lesser counts: an add and a write of these dots also name them
 unfoldable pub older_dots : SiteView → List Dot → set.FinSet dot_cmp
 older_dots r dots = set.retain r.known (λ dot. is_dead r dot && is_older dots dot)
 
@@ -80,7 +80,7 @@ dots_seen r (Some queue) interface =
 unfoldable pub visible_with : SiteView → Operation → set.FinSet dot_cmp
 visible_with r o = set.retain (set.union r.dots.visible (asserted_dots (o ∷ []))) (λ dot. not (is_dead r dot || names dot o))
 
--- the dots that are known then
+-- the dots that are known once there is one operation more
 unfoldable pub known_with : SiteView → Operation → set.FinSet dot_cmp
 known_with r o = set.union r.known (known_dots (o ∷ []))
 

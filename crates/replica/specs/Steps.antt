@@ -1,5 +1,5 @@
 -- One site's steps: it does a command, cuts its buffer into a frame, makes a frame of all that it knows, or takes a frame (RR-7506:
--- a replica updates its state at the source and merges what it is sent; the buffer and the frames' numbers are this project's own).
+-- a replica updates its state at the source and merges what it is sent).
 use Rattle.std.specs.Prelude.{ℕ, suc, nat_lt, List, [], ◌∷◌, ◌++◌, if◌then◌else◌}
 use Rattle.std.specs.FinSet as set
 use Rattle.dots.specs.declared.limits.TheConstants.{MOST_COUNT, MOST_LIVE, MOST_RUNS}
@@ -9,25 +9,25 @@ use Rattle.replica.specs.declared.refusal.Refusal.{Refusal}
 use Rattle.replica.specs.Changes.{Change, Meaning, Refused, Makes, meaning}
 use Rattle.replica.specs.SiteViews.{site_view}
 
--- a site: what it knows, what of its own it has put in no frame yet, and how many frames it has made
+-- a site: what it knows, what it has in its buffer, and how many frames it has made
 pub record SiteKnowledge : Type 0 where
   pub known : Knowledge
   pub buffer : Knowledge
   pub frames : ℕ
 
--- a site that knows nothing
+-- a new site
 abbrev pub new_site : SiteKnowledge
 new_site = record { known = []; buffer = []; frames = 0 }
 
--- what may happen at a site
+-- a step of a site
 pub data Step : Type 0 where
   Do : (change : Change) → Step
   Cut : Step
   Whole : Step
   Take : (frame : Knowledge) → Step
 
--- what comes of it: a command is done or refused; a frame has its number and what it carries, or there is nothing to cut, or no
--- number is left; a frame is taken, or its dots or the runs of its dots would be too many
+-- the outcome of a step: a command is done or refused; a frame has its number and what it carries, or there is nothing to cut, or
+-- no number is left; a frame is taken, or its dots or the runs of its dots would be too many
 pub data Outcome : Type 0 where
   Done : Outcome
   Denied : (refusal : Refusal) → Outcome
@@ -38,12 +38,12 @@ pub data Outcome : Type 0 where
   CellsFull : Outcome
   RunsFull : Outcome
 
--- a site after a command of this meaning, and what comes of it
+-- a site after a command of this meaning, and the outcome
 abbrev pub after_meaning : SiteKnowledge → Meaning → SiteKnowledge × Outcome
 after_meaning s (Refused refusal) = (s, Denied refusal)
 after_meaning s (Makes o) = (record { known = o ∷ s.known; buffer = o ∷ s.buffer; frames = s.frames }, Done)
 
--- a frame of this, under the next number, where there is one
+-- a frame of this knowledge, under the next number, if there is one
 abbrev pub after_frame : SiteKnowledge → Knowledge → Knowledge → SiteKnowledge × Outcome
 after_frame s frame buffer =
     if nat_lt MOST_COUNT (suc s.frames) then (s, NoNumber)

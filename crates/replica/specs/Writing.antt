@@ -1,4 +1,4 @@
--- What a site writes: what is held of its dots, and the parts of its change.
+-- The parts of a write: what is held of its dots, and its change.
 use Rattle.std.specs.Prelude.{◌≡◌, None, Option, List, if◌then◌else◌}
 use Rattle.std.specs.List.{list_any}
 use Rattle.std.specs.Option.{option_map}
@@ -13,7 +13,7 @@ use Rattle.operations.specs.Totals.{key_cmp}
 use Rattle.member_orset.specs.Members.{Holding, IsWithinLimits, Members}
 use Rattle.delta.specs.DeltaStates.{DeltaState}
 
--- of each of these dots that is live in a set its member there, with these fields; nothing of the others
+-- the dots of these that are live in a set, each with its member there and with these fields
 abbrev pub written_to : Members → List Dot → DotFields → Dot → Option Holding
 written_to s dots fields q = if list_any (is_dot q) dots then option_map (λ h. (h.0, fields)) (map.get s.live q) else None
 

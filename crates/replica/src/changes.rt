@@ -1,4 +1,4 @@
-//! The changes of single operations, each made of what its site has seen.
+//! The changes of single operations, each made from what its site has seen.
 ghost use Rattle.std.specs.Prelude.{◌≡◌, ◌≢◌, ◌↔◌, ◌<◌, ◌≤◌, [], ◌∷◌};
 ghost use Rattle.std.specs.Prelude.{Err, IfOk, OnOk, length, true};
 ghost use Rattle.std.specs.List.{All, list_any};
@@ -32,7 +32,7 @@ fn of_members(alloc: Global, builder: SetBuilder) -> Delta
 }
 
 // The change of an add: the dot is live with this member and these fields, and the older dots that are dead are known with
-// it. Faults: `RunsFull`, exactly where these make more than 65,536 runs; `Memory`.
+// it. Errors: `RunsFull`, exactly where these make more than 65,536 runs; `Memory`.
 pub(crate) fn added(
     alloc: Global,
     members: &MemberSet,
@@ -58,7 +58,7 @@ pub(crate) fn added(
     Ok(of_members(alloc, builder))
 }
 
-// Gives a builder a cell for each of these dots: live with the member that it has in a set, and with these fields.
+// Adds a cell for each of these dots to a builder: live with the member that it has in a set, and with these fields.
 fn write_all(
     builder: &mut SetBuilder,
     members: &MemberSet,
@@ -83,8 +83,8 @@ fn write_all(
     Ok(())
 }
 
-// The change of a write on live dots that rise: they are live with these fields alone, and the older dots that are dead are
-// known with them. Faults: `RunsFull`, exactly where these make more than 65,536 runs; `Memory`.
+// The change of a write on sorted live dots: they are live with these fields alone, and the older dots that are dead are
+// known with them. Errors: `RunsFull`, exactly where these make more than 65,536 runs; `Memory`.
 pub(crate) fn written(
     alloc: Global,
     members: &MemberSet,
@@ -126,7 +126,7 @@ fn context_of(alloc: Global, dots: &[Dot]) -> Result<Context, ContextFault>
     Ok(context)
 }
 
-// The change of a remove: these dots are dead. The one fault is want of memory.
+// The change of a remove: these dots are dead. Fails only when out of memory.
 pub(crate) fn removed(alloc: Global, dots: &[Dot]) -> Result<Delta, ContextFault>
     requires { length dots.now ≤ MOST_LIVE }
     ensures parts { IfOk result (λ change. HasParts change (set.from_list dots.now)
@@ -140,7 +140,7 @@ pub(crate) fn removed(alloc: Global, dots: &[Dot]) -> Result<Delta, ContextFault
     Ok(of_members(alloc, SetBuilder::new(alloc, context)))
 }
 
-// So many of these calls, and none of the others.
+// A total of these calls, and 0 of the others.
 fn calls_alone(calls: Calls, total: u64) -> CallTotals
     ensures { result ≡ alone calls total }
 {

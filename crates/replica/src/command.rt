@@ -7,7 +7,7 @@ use dots::{Interface, Label, Pause, Penalty, QueueName};
 /// project's own).
 #[derive(Drop, PartialEq, Eq)]
 pub enum Command {
-    /// Adds the interface to the queue, with what is set of it. One that is paused has an empty reason.
+    /// Adds the interface to the queue, with these fields. A member that begins paused has an empty reason.
     Add {
         /// The queue.
         queue: QueueName,
@@ -27,7 +27,7 @@ pub enum Command {
         /// The interface.
         interface: Interface,
     },
-    /// Pauses the interface in the queue, or goes on with it; without a queue, in every one that it is a member of.
+    /// Pauses or unpauses the interface in the queue; without a queue, in every one that it is a member of.
     Pause {
         /// The queue, if it is one alone.
         queue: Option<QueueName>,
@@ -52,7 +52,7 @@ pub enum Command {
         queue: Option<QueueName>,
         /// The interface.
         interface: Interface,
-        /// Whether it is rung then.
+        /// Whether it is rung while its device is in use.
         ring: bool,
     },
     /// Counts a call of the queue that was completed.
@@ -67,7 +67,7 @@ pub enum Command {
     },
 }
 
-// Makes known that both texts of a label are texts.
+// Exposes to the proof that both texts of a label are texts.
 fn see_label(label: &Label)
     ensures { IsLabel label.now }
 {
@@ -75,14 +75,14 @@ fn see_label(label: &Label)
     let _ = label.state.as_bytes();
 }
 
-// Makes known what holds of a pause.
+// Exposes to the proof the invariant of a pause.
 fn see_pause(pause: &Pause)
     ensures { IsPause pause.now }
 {
     let _ = pause.reason();
 }
 
-// The name of a queue once more, where there is one.
+// A copy of a queue's name, if there is one.
 fn copy_name(name: &Option<QueueName>) -> Option<QueueName>
     ensures { result ≡ name.now }
 {
@@ -115,7 +115,7 @@ impl Command {
     ghost use Rattle.replica.specs.Changes.{change_of};
     ghost use Rattle.replica.specs.Promises.{IsChange};
 
-    /// The same command once more. It takes no memory.
+    /// Returns a copy. Takes no memory.
     pub fn copy(&self) -> Command
         ensures { result ≡ self.now }
     {
@@ -167,7 +167,7 @@ impl Command {
         }
     }
 
-    /// Makes known that its values are within their limits, as their types have it. It does nothing.
+    /// Exposes the value limits of its types to the proof. Does nothing.
     pub fn see_limits(&self)
         ensures { IsChange (change_of self.now) }
     {
@@ -205,7 +205,7 @@ impl Command {
         }
     }
 
-    /// Whether it is the same command as the other. It takes no memory.
+    /// Whether it is the same command as the other. Takes no memory.
     pub fn same(&self, other: &Command) -> bool
         ensures { IsTrue result ↔ (self.now ≡ other.now) }
     {

@@ -1,4 +1,4 @@
-//! Commands, one by one: what is to be made of each.
+//! Plans commands: the operation of each, or its refusal.
 ghost use Rattle.std.specs.Prelude.{◌≡◌, [], OnErr, max};
 ghost use Rattle.site_totals.specs.Raising.{number_of};
 ghost use Rattle.replica.specs.Changes.{AddMember, CountCall, RemoveMember, SetField};
@@ -25,7 +25,7 @@ use dots::{
 use lww_registers::{Fields, Register};
 use std::cmp::max;
 
-// How many of these calls there are.
+// The number of these calls.
 fn number_of(calls: Calls, totals: CallTotals) -> u64
     ensures { result ≡ number_of calls totals }
 {
@@ -42,7 +42,7 @@ fn later(time: u64, other: u64) -> u64
     max(time, other)
 }
 
-// What an add sets under its stamp: all but ring.
+// The fields of an add under its stamp: all but ring.
 fn fields_added(stamp: Stamp, penalty: Penalty, paused: bool, label: Label) -> Fields
     ensures { result ≡ fields_added stamp penalty (record { paused = paused; reason = [] }) label }
 {
@@ -57,22 +57,24 @@ fn fields_added(stamp: Stamp, penalty: Penalty, paused: bool, label: Label) -> F
 impl Replica {
     /// Does a command, or refuses it and changes nothing of what the site says.
     ///
-    /// An add makes a new dot of the interface in the queue, with what is set of it and an empty reason. A pause, a penalty and ring
-    /// in use are written on all dots of the interface that the site sees in the queue, or, without a queue, in every one; also
-    /// where they repeat what is set. An add and these three also name the dead dots of the sites of their dots with lesser counts.
-    /// A remove names all dots of the interface that the site sees in the queue. A count adds one call of the queue (RR-8083 for the
-    /// dots, RR-7506 for the registers and counters). What is made is joined into the state and the buffer, and live dots keep
+    /// An add makes a new dot of the interface in the queue, with its fields and an empty reason. A pause, a penalty and ring in
+    /// use are written on all dots of the interface that the site sees in the queue, or, without a queue, in every one; also if
+    /// they repeat the present value. An add and these three also name the dead dots of the sites of their dots with lesser counts.
+    /// A remove names all dots of the interface that the site sees in the queue. A count adds one call of the queue (RR-8083 for
+    /// the dots, RR-7506 for the registers and counters). The operation is joined into the state and the buffer, and live dots keep
     /// their ids.
     ///
-    /// It is refused, in this order, as
-    /// 1 `NoSuchQueue` where its queue isn't in the list; 2 `AlreadyThere` where the member of an add is there;
-    /// 3 `NotThere` where the site sees no dot that a remove, a pause, a penalty or ring in use goes over;
-    /// 4 `MembersFull` where the state or the buffer would have more than 16,384 live dots or 65,536 runs, or what is made has more
-    /// than 65,536 runs by itself;
-    /// 5 `Exhausted` where an add's next count, or the next time of an add, a pause, a penalty or ring in use, is past 2^40. The next
-    /// time of an add is one past the site's last; that of the others is past all that they replace too;
-    /// 6 `TotalFull` where the site's own total of these calls in the queue is 1,000,000,000;
-    /// 7 `Memory`, which may stand in place of 4 and 5, and of what would be made, and never of the others. The order is this project's own.
+    /// Errors, in order:
+    ///
+    /// 1. `NoSuchQueue`: the queue isn't in the list.
+    /// 2. `AlreadyThere`: the member of an add is there.
+    /// 3. `NotThere`: the site sees no dot for a remove, a pause, a penalty or ring in use.
+    /// 4. `MembersFull`: the state or the buffer would have more than 16,384 live dots or 65,536 runs, or the operation has more
+    ///    than 65,536 runs by itself.
+    /// 5. `Exhausted`: an add's next count, or the next time of an add, a pause, a penalty or ring in use, is past 2^40. The next
+    ///    time of an add is one past the site's last; that of the others is also past all that they replace.
+    /// 6. `TotalFull`: the site's own total of these calls in the queue is 1,000,000,000.
+    /// 7. `Memory`: it may replace 4, 5 and a success, and no other refusal.
     pub fn command(&mut self, command: &Command) -> Result<(), Refusal>
         ensures meaning { IsDone self.old (meaning_at self.old (change_of command.now))
             self.new result }
@@ -80,7 +82,7 @@ impl Replica {
         ensures site { self.new.site ≡ self.old.site }
         ensures names { self.new.names ≡ self.old.names }
 
-        // Where the replica stands for what a site knows, it is the command's meaning there.
+        // If the replica stands for what a site knows, the result is the command's meaning there.
         ensures knowledge { (s : SiteKnowledge) → StandsFor self.old s
             → IsMeant self.old self.new result
             (step self.old.site self.old.names s (Do (change_of command.now))) }
@@ -91,7 +93,7 @@ impl Replica {
         }
     }
 
-    // What is to be made of a command.
+    // The plan of a command.
     fn plan(&self, command: &Command) -> Result<Planned, Refusal>
         ensures { IsPlanned self.now (meaning_at self.now (change_of command.now)) result }
     {
@@ -124,7 +126,7 @@ impl Replica {
         }
     }
 
-    // One more of these calls of a queue.
+    // The plan of one more of these calls of a queue.
     fn plan_count(&self, queue: &QueueName, calls: Calls) -> Result<Planned, Refusal>
         ensures { IsPlanned self.now (meaning_at self.now (CountCall queue.now calls)) result }
     {
@@ -145,7 +147,7 @@ impl Replica {
         }
     }
 
-    // An interface that is added to a queue.
+    // The plan of an add of an interface to a queue.
     fn plan_add(
         &self,
         queue: &QueueName,
@@ -184,7 +186,7 @@ impl Replica {
         }
     }
 
-    // An interface that is removed from a queue.
+    // The plan of a remove of an interface from a queue.
     fn plan_remove(&self, queue: &QueueName, interface: &Interface) -> Result<Planned, Refusal>
         ensures { IsPlanned self.now
             (meaning_at self.now (RemoveMember queue.now interface.now)) result }
@@ -215,7 +217,7 @@ impl Replica {
         }
     }
 
-    // One field that is set in a queue, or in every one.
+    // The plan of a setting of one field in a queue, or in every one.
     fn plan_setting(
         &self,
         queue: &Option<QueueName>,
@@ -234,7 +236,7 @@ impl Replica {
         }
     }
 
-    // One field that is set on the dots that are seen.
+    // The plan of a setting of one field on the dots that are seen.
     fn plan_write(
         &self,
         queue: Option<u16>,

@@ -1,4 +1,4 @@
-//! What is answered where no number is left for a command: full goes before used up.
+//! The refusal of a command for which no number is left: `MembersFull` before `Exhausted`.
 ghost use Rattle.std.specs.Prelude.{◌≡◌, ◌<◌, ◌≤◌, length};
 ghost use Rattle.replica.specs.Commands.{IsToldOfAdds, IsToldOfWrites};
 
@@ -7,7 +7,7 @@ use crate::{Refusal, Replica};
 use causal_context::ContextFault;
 use dots::{Dot, MOST_LIVE, MOST_RUNS};
 
-// Why a change of too many runs, or for which no memory was found, is refused.
+// The refusal of a change with too many runs, or that is out of memory.
 pub(crate) fn refusal_of_runs(fault: ContextFault) -> Refusal
     ensures full { fault ≡ ContextFault.RunsFull → result ≡ Refusal.MembersFull }
     ensures memory { fault ≡ ContextFault.Memory → result ≡ Refusal.Memory }
@@ -19,7 +19,7 @@ pub(crate) fn refusal_of_runs(fault: ContextFault) -> Refusal
 }
 
 impl Replica {
-    // Why an add is refused where the next count or the next time is past 2^40.
+    // The refusal of an add where the next count or the next time is past 2^40.
     pub(crate) fn refuse_add(&self) -> Refusal
         ensures { IsToldOfAdds self.now result }
     {
@@ -40,7 +40,8 @@ impl Replica {
         Refusal::Exhausted
     }
 
-    // Why a write on these dots, of which there is one, is refused where the next time is past 2^40.
+    // The refusal of a write on these dots, of which there is one at least, where the next time is
+    // past 2^40.
     pub(crate) fn refuse_write(&self, dots: &[Dot]) -> Refusal
         requires some { 0 < length dots.now }
         requires few { length dots.now ≤ MOST_LIVE }

@@ -1,4 +1,4 @@
-//! What no site takes of another: what is of a queue that it doesn't have, and what it hasn't made itself.
+//! What a site refuses of another's frame: queues that it doesn't have, and dots, writes and calls of its own that it hasn't made.
 ghost use Rattle.std.specs.Prelude.{◌≡◌, ◌⊎◌, ◌↔◌, ◌<◌, ◌≤◌, Any, Err, IsTrue, OnErr, OnOk, length};
 ghost use Rattle.std.specs.FinMap as map;
 ghost use Rattle.operations.specs.Totals.{InLimits};
@@ -14,7 +14,7 @@ use lww_registers::{Fields, Register};
 use member_orset::MemberSet;
 use site_totals::{TotalKey, Totals};
 
-// Whether some live dot is of a member in a queue whose number isn't below this one. It takes no memory, like all that is here.
+// Whether some live dot is of a member in a queue whose number isn't below this one. Takes no memory, like every function here.
 pub(crate) fn has_strange_member(members: &MemberSet, queues: u16) -> bool
     ensures { IsTrue result ↔ Any (λ e. queues ≤ e.1.0.queue) (map.entries members.now.live) }
 {
@@ -110,7 +110,7 @@ fn has_member_past(members: &MemberSet, site: SiteId, count: u64, time: u64) -> 
     has_dot_past(members.context(), site, count) || has_stamp_past(members, site, time)
 }
 
-// Whether one of two totals is greater than an own one.
+// Whether one of two totals is greater than the site's own one.
 fn counts_more(totals: CallTotals, own: CallTotals) -> bool
     ensures { IsTrue result ↔ CountsMore own totals }
 {
@@ -134,7 +134,7 @@ fn has_total_past(totals: &Totals, own: &Totals, site: SiteId) -> bool
         .any(|(key, counted)| is_entry_past(key, counted, own, site))
 }
 
-// Whether a delta says of a site what the site hasn't made.
+// Whether a delta has a dot, a write or a call of a site that the site hasn't made.
 fn is_not_mine(replica: &Replica, delta: &Delta) -> bool
     ensures { IsTrue result ↔ IsNotMine replica.now delta.now }
 {
@@ -144,7 +144,7 @@ fn is_not_mine(replica: &Replica, delta: &Delta) -> bool
         || has_total_past(delta.totals(), replica.state().totals(), site)
 }
 
-// Whether a site may hear a delta, or why not.
+// Whether a site may hear a delta; otherwise the fault.
 pub(crate) fn hear(replica: &Replica, delta: &Delta) -> Result<(), TakeFault>
     ensures heard { OnOk result (MayHear replica.now delta.now) }
     ensures no_such_queue { (result ≡ Err TakeFault.NoSuchQueue)

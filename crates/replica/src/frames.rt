@@ -1,4 +1,4 @@
-//! Frames: what a site sends to others, and what it takes of them.
+//! Frames that a site makes, and frames that it takes.
 ghost use Rattle.std.specs.Prelude.{◌≡◌, ◌+◌, ◌↔◌, Err, IfErr, IfOk, IfSome, IsOk, None, Ok, OnErr};
 ghost use Rattle.std.specs.Prelude.{OnOk};
 ghost use Rattle.operations.specs.Knowledge.{Knowledge};
@@ -20,7 +20,7 @@ use delta::{Delta, JoinFault};
 use dots::MOST_COUNT;
 use std::mem;
 
-// Why a frame is refused whose delta can't be joined.
+// The fault of a take for a delta that can't be joined.
 fn take_fault_of(fault: JoinFault) -> TakeFault
     ensures { result ≡ take_fault_of fault }
 {
@@ -33,10 +33,9 @@ fn take_fault_of(fault: JoinFault) -> TakeFault
 }
 
 impl Replica {
-    /// Puts the buffer into a frame of this site, under its next number, and begins an empty one (RR-7506: what a site has made is
-    /// sent to the others; the numbers are this project's own). It takes no memory. `None` exactly where the buffer is empty,
-    /// and then no number is used. The one fault is `Exhausted`, exactly where the buffer isn't empty and the site has made
-    /// 2^40 frames. Neither changes anything.
+    /// Puts the buffer into a frame of this site, under its next number, and begins an empty buffer (RR-7506: what a site has made
+    /// is sent to the others). Takes no memory. `None` exactly where the buffer is empty, and then no number is used. Fails only
+    /// with `Exhausted`, exactly where the buffer isn't empty and the site has made 2^40 frames. Both results change nothing.
     pub fn cut(&mut self) -> Result<Option<Frame>, CutFault>
         ensures nothing { (result ≡ Ok None) ↔ IsEmpty self.old.pending }
         ensures frame { IfOk result (λ cut. IfSome cut (λ frame. HasCut self.old frame self.new)) }
@@ -64,9 +63,9 @@ impl Replica {
         }))
     }
 
-    /// A frame of all that the site knows, be it nothing, under its next number; the buffer stays as it is (RR-7506: a replica
-    /// sends its state; the numbers are this project's own). Both kinds of frames are within the ranges of the format. It is refused
-    /// as 1 `Exhausted`, exactly where the site has made 2^40 frames; 2 `Memory`. Neither changes anything.
+    /// Makes a frame of everything that the site knows, also if that is nothing, under its next number; the buffer stays as it is
+    /// (RR-7506: a replica sends its state). Both kinds of frames are within the ranges of the format. Errors, in order, each of
+    /// which changes nothing: 1 `Exhausted`, exactly where the site has made 2^40 frames; 2 `Memory`.
     pub fn whole(&mut self) -> Result<Frame, CutFault>
         ensures frame { IfOk result (λ frame. HasCopied self.old frame self.new) }
         ensures exhausted { (result ≡ Err CutFault.Exhausted) ↔ (self.old.frames ≡ MOST_COUNT) }
@@ -89,9 +88,9 @@ impl Replica {
         })
     }
 
-    /// Uses up the site's next frame number and returns it: the number of a frame of all that the site knows, of which the caller
-    /// writes the bytes from the state itself, so that no copy of the state is made (this project's own). It takes no memory. The one
-    /// fault is `Exhausted`, exactly where the site has made 2^40 frames; it changes nothing.
+    /// Uses up the site's next frame number and returns it. It numbers a frame of everything that the site knows; the caller writes
+    /// the frame's bytes from the state itself, so that no copy of the state is made. Takes no memory. Fails only with `Exhausted`,
+    /// exactly where the site has made 2^40 frames, and then changes nothing.
     pub fn use_frame_number(&mut self) -> Result<u64, CutFault>
         ensures number { IfOk result (λ number. number ≡ self.old.frames + 1) }
         ensures used { OnOk result
@@ -107,15 +106,15 @@ impl Replica {
         Ok(self.frames)
     }
 
-    /// Joins what a frame says into the state, whoever made it; the buffer stays as it is (RR-7506: a replica merges what it
-    /// is sent). Live dots keep their ids, and the site's last numbers stay. A refused frame comes back as it was, and no fault changes
-    /// what the site says. The first fault that stands is told: 1 `NoSuchQueue`, exactly
-    /// where a live dot or a total is of a queue that isn't in the list; 2 `NotMine`, exactly where it says of this site what
-    /// the site hasn't made: a dot past its last count, a field of a live dot past its last time, or a total past its own;
-    /// 3 `Conflict`, exactly where a dot is live in both with two members, or with a field of one stamp and two values;
-    /// 4 `CellsFull`, exactly where the join has more than 16,384 live dots; 5 `RunsFull`, exactly where the known dots of
-    /// both make more than 65,536 runs; 6 `Memory`, which doesn't come where the state was prepared for what the frame says
-    /// (`Delta::prepared`). The first two are this project's own.
+    /// Joins a frame of any maker into the state; the buffer stays as it is (RR-7506: a replica merges what it is sent). Live dots
+    /// keep their ids, and the site's last numbers stay. A fault returns the frame unchanged, and leaves what the site says.
+    ///
+    /// Errors, in order: 1 `NoSuchQueue`, exactly where a live dot or a total is of a queue that isn't in the list; 2 `NotMine`,
+    /// exactly where the frame has something of this site that the site hasn't made: a dot past its last count, a field of a live
+    /// dot past its last time, or a total past its own; 3 `Conflict`, exactly where a dot is live in both with two members, or with
+    /// a field of one stamp and two values; 4 `CellsFull`, exactly where the join has more than 16,384 live dots; 5 `RunsFull`,
+    /// exactly where the known dots of both make more than 65,536 runs; 6 `Memory`, never where the state was prepared for the
+    /// frame's delta (`Delta::prepared`).
     pub fn take(&mut self, frame: Frame) -> Result<(), (TakeFault, Frame)>
         ensures joined { OnOk result (HasTakenDelta self.old frame.delta self.new) }
         ensures may { OnOk result (MayTake self.old frame.delta) }

@@ -1,4 +1,4 @@
-//! Whether a delta would be too full with one operation more, where its dot or its stamp has no number left.
+//! Whether a delta would be too full with one operation more, whose dot or stamp has no number left.
 ghost use Rattle.std.specs.Prelude.{◌≡◌, ◌≤◌, ◌+◌};
 ghost use Rattle.replica.specs.Fitting.{is_past_with};
 
@@ -6,8 +6,8 @@ use causal_context::Context;
 use delta::Delta;
 use dots::{MOST_COUNT, MOST_LIVE, MOST_RUNS, SiteId};
 
-// Whether a delta has too many live dots or runs, once the dots of a context are dead there, `more` others are live, and one
-// dot of a site is known besides.
+// Whether a delta would have too many live dots or runs, if the dots of a context were dead there, `more` others were live,
+// and one more dot of a site were known.
 pub(crate) fn is_full_with(
     delta: &Delta,
     dead: &Context,

@@ -1,4 +1,4 @@
-//! Changes that the state and the buffer take both, or neither.
+//! Joins changes into the state and the buffer, or into neither.
 ghost use Rattle.std.specs.Prelude.{◌≡◌, ◌⊎◌, OnOk, OnErr, IsErrOf};
 ghost use Rattle.member_orset.specs.Members.{IsWithinLimits};
 ghost use Rattle.delta.specs.DeltaStates.{IsUnchanged};
@@ -8,7 +8,7 @@ ghost use Rattle.replica.specs.Fitting.{BothTakeIn, HasRoomFor, IsTooFullFor};
 use crate::Refusal;
 use delta::{Delta, JoinFault};
 
-// Why a change of what was seen is refused: it is in conflict with nothing.
+// The refusal of a change that can't be joined; it is never in conflict.
 fn refusal_of(fault: JoinFault) -> Refusal
     ensures full { fault ≡ JoinFault.CellsFull → result ≡ Refusal.MembersFull }
     ensures runs { fault ≡ JoinFault.RunsFull → result ≡ Refusal.MembersFull }
@@ -37,8 +37,8 @@ fn make_room(delta: &mut Delta, change: &Delta) -> Result<(), Refusal>
     }
 }
 
-// Joins a change that agrees with both into the state and the buffer. It is copied once, and a refusal leaves both as they
-// were.
+// Joins a change that agrees with both into the state and the buffer. The change is copied once, and a refusal leaves both
+// as they were.
 pub(crate) fn join_both(
     state: &mut Delta,
     pending: &mut Delta,

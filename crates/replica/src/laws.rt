@@ -1,4 +1,4 @@
-//! What the definitions of commands and steps promise, and of what stands for them. The functions have no body: their contracts are the laws.
+//! Laws of commands and steps, and of the states that stand for them. The functions have no body: their contracts are the laws.
 ghost use Rattle.std.specs.Prelude.{◌≡◌, ◌↔◌, ◌<◌, ◌≤◌, ◌∷◌, ℕ, Bool, List, Option, Result};
 ghost use Rattle.std.specs.Prelude.{length, suc};
 ghost use Rattle.dots.specs.declared.calls.Calls.{Calls};
@@ -39,43 +39,43 @@ ghost use Rattle.replica.specs.Steps.{SiteKnowledge, Step, Take, Taken, Whole, n
 ghost use Rattle.replica.specs.Taking.{HasNoneLater, IsNotMine, IsRefusedFor, IsRefusedTake};
 ghost use Rattle.replica.specs.Taking.{MayHear, MayJoin, MayTake, SpeaksOfStrangeQueue};
 
-/// The visible and the known dots that a site view gives with one operation more are those of the knowledge that has it: so
-/// whether a site is full is asked of what it would know (this project's own).
+/// The visible and the known dots that a site view gives for one operation more are those of the knowledge with that operation. So
+/// whether a site is full is decided for what it would know.
 pub fn a_site_view_foresees_one_operation_more()
     ensures { (site : ℕ) (k : Knowledge) (o : Operation) → ForeseesOneMore site k o }
 {}
 
-/// What an add and a write name beside the dots that they assert are dots of the same site with lesser counts that some
-/// operation has named (this project's own).
+/// The older dots that an add and a write name are dots of the same site with lesser counts that some operation has named.
 pub fn older_dots_are_named()
     ensures { OlderAreNamed }
 {}
 
-/// A command has one meaning at knowledges of the same operations (RR-7506: the order of delivery doesn't show).
+/// A command has one meaning at knowledges of the same operations (RR-7506: the meaning doesn't depend on the order of delivery).
 pub fn a_command_means_the_same_at_the_same_operations()
     ensures { MeansTheSame }
 {}
 
-/// A command means the same where what is read is alike, be it of a knowledge or of what stands for it (this project's own).
+/// A command means the same at equal site views, of a knowledge or of a state that stands for it.
 pub fn a_command_means_the_same_at_views_that_are_alike()
     ensures { (r s buffer other : SiteView) → AreAlike r s → AreAsFull buffer other
         → MeansTheSameAlike r s buffer other }
 {}
 
-/// What a command makes is within the limits of operations, where the site's number, its queues, the command's values, and all operations that the site knows, are
-/// within theirs (this project's own).
+/// The operation of a command is within the limits of operations, if the site's number, its queues, the command's values, and all
+/// operations that the site knows, are within theirs.
 pub fn a_command_makes_operations_within_limits()
     ensures { MakesWithinLimits }
 {}
 
-/// What a command makes leaves a trace in whatever stands for it, so that a buffer which isn't empty has no empty delta (this project's own).
+/// The operation of a command leaves a trace in every delta that stands for it, so that a buffer that isn't empty has no empty
+/// delta.
 pub fn a_command_makes_operations_that_leave_traces()
     ensures { MakesTraces }
 {}
 
-/// What a command makes is what its site may make of what it knows: an add of its next dot under its next time, of a member that isn't there; a remove of all dots of
-/// one member that are visible to it; a write of all that are visible of each member that it writes, under a time after all of its own; its next count (RR-8083: an
-/// add makes a new tag, and a remove names the observed ones; the numbers and the older dots are this project's own).
+/// The operation of a command is one that its site may make: an add of its next dot under its next time, of a member that isn't
+/// there; a remove of all dots of one member that are visible to it; a write of all that are visible of each member that it writes,
+/// under a time after all of its own; its next count (RR-8083: an add makes a new tag, and a remove names the observed ones).
 pub fn a_command_makes_what_its_site_may_make()
     ensures { (site : ℕ) (names : List (List ℕ)) (change : Change) (k buffer : Knowledge)
         (o : Operation)
@@ -83,20 +83,20 @@ pub fn a_command_makes_what_its_site_may_make()
         → IsMadeAt site names k o }
 {}
 
-/// A step that is refused leaves the site as it was (this project's own).
+/// A step that is refused leaves the site as it was.
 pub fn a_refused_step_changes_nothing()
     ensures { (site : ℕ) (names : List (List ℕ)) (s : SiteKnowledge) (event : Step)
         → RefusalsChangeNothing site names s event }
 {}
 
-/// A replica that is unchanged stands for what it stood for (this project's own).
+/// A replica that is unchanged stands for what it stood for.
 pub fn an_unchanged_replica_stands_for_the_same()
     ensures { (old new : SiteState) (s : SiteKnowledge)
         → StandsFor old s → IsUnchanged old new → StandsFor new s }
 {}
 
-/// A replica says the same as itself; what is unchanged says the same, and so does what is equal; and it is so both ways, and from one to the next (this project's
-/// own).
+/// To say the same is an equivalence of sites: reflexive, symmetric and transitive. A site that is unchanged or equal says the
+/// same.
 pub fn to_say_the_same_is_an_equivalence()
     ensures reflexive { (s : SiteState) → IsSameSite s s }
     ensures symmetric { (s t : SiteState) → IsSameSite s t → IsSameSite t s }
@@ -106,16 +106,16 @@ pub fn to_say_the_same_is_an_equivalence()
     ensures equal { (old new : SiteState) → new ≡ old → IsSameSite old new }
 {}
 
-/// Replicas that say the same stand for the same (this project's own).
+/// Replicas that say the same stand for the same.
 pub fn replicas_that_say_the_same_stand_for_the_same()
     ensures { (old new : SiteState) (s : SiteKnowledge)
         → StandsFor old s → IsSameSite old new → StandsFor new s }
 {}
 
-/// What is done at a replica is the step of the site that it stands for, whatever rooms it has: a new one stands for a new site; a command that is answered
-/// by its meaning, a cut, a frame of all that is known and a take lead to what the site knows after that step, with its outcome, where a frame stands for what
-/// it carries and this has no later number of the site; and a cut of an empty buffer is none (RR-7506: a replica is changed at its source, and merges what it is
-/// sent).
+/// Each call of a replica is the step of the site that it stands for, whatever room it has: a new replica stands for a new site; a
+/// command with its meaning, a cut, a frame of everything that is known and a take lead to what the site knows after that step,
+/// with its outcome, if the frame stands for what it carries and this has no later number of the site; a cut of an empty buffer is
+/// no step (RR-7506: a replica is changed at its source, and merges what it is sent).
 pub fn deeds_stand_for_steps()
     ensures new { (state : SiteState) → IsNew state → StandsFor state new_site }
     ensures command { (old new : SiteState) (s : SiteKnowledge) (change : Change)
@@ -139,8 +139,9 @@ pub fn deeds_stand_for_steps()
         StandsFor new after.0 × (after.1 ≡ Taken) }
 {}
 
-/// What is refused at a replica is refused in the step of the site that it stands for, which changes nothing: a cut of a buffer that isn't empty, and a frame of all
-/// that is known, where no number is left; and a take where too many dots would be live, or else the known ones would have too many runs (this project's own).
+/// A refusal of a replica is one of the step of the site that it stands for, which changes nothing: a cut of a buffer that isn't
+/// empty, and a frame of everything that is known, if no number is left; and a take if too many dots would be live, or else the
+/// known ones would have too many runs.
 pub fn refusals_stand_for_steps()
     ensures cut { (state : SiteState) (s : SiteKnowledge) → StandsFor state s
         → (IsEmpty state.pending → ⊥) → state.frames ≡ MOST_COUNT
@@ -158,18 +159,19 @@ pub fn refusals_stand_for_steps()
         → step state.site state.names s (Take k) ≡ (s, RunsFull) }
 {}
 
-/// What a site may take it may take of each delta that says the same, and so it is of what it has taken. So it makes no difference whether a frame or a copy of it is
-/// taken (this project's own).
+/// If a site may take a delta, it may take each one that says the same; the same holds of deltas that it has taken. So to take a
+/// frame or a copy of it makes no difference.
 pub fn what_says_the_same_is_taken_the_same()
     ensures may { (s : SiteState) (d e : DeltaState) → IsSame d e → MayTake s d → MayTake s e }
     ensures taken { (old new : SiteState) (d e : DeltaState)
         → IsSame d e → IsTakeDeed old d new → IsTakeDeed old e new }
 {}
 
-/// Sites that say the same show the same and do the same, whatever rooms and ids they have: a queue has the same rows and the same totals; a command means the same;
-/// the buffers of both are empty, or of neither; and both may take the same deltas, and refuse the same for the same cause. After the same command, a cut, a frame of all
-/// that is known, or the take of one delta, they say the same again, with the same result, and so do their frames (RR-7506: replicas in equivalent states stay so under
-/// the same updates).
+/// Sites that say the same show the same and act the same, whatever rooms and ids they have: a queue has the same rows and the same
+/// totals; a command means the same; the buffers of both are empty, or of neither; and both may take the same deltas, and refuse
+/// the same for the same cause. After the same command, a cut, a frame of all that is known, or the take of one delta, they say the
+/// same again, with the same result, and so do their frames (RR-7506: replicas in equivalent states stay so under the same
+/// updates).
 pub fn sites_that_say_the_same_do_the_same()
     ensures rows { (s t : SiteState) (queue : ℕ) → IsSameSite s t
         → rows_of s queue ≡ rows_of t queue }
@@ -213,8 +215,8 @@ pub fn sites_that_say_the_same_do_the_same()
         → IsTakeDeed s d new → IsTakeDeed t d after → IsSameSite new after }
 {}
 
-/// The next frame of a replica, be it of its buffer or of all that it knows, is within the ranges of the format while a number is left, so it can be spelled from
-/// its parts (this project's own).
+/// The next frame of a replica, of its buffer or of everything that it knows, is within the ranges of the format while a number is
+/// left, so it has an encoding.
 pub fn a_next_frame_is_in_ranges()
     ensures pending { (s : SiteState) → IsKept s → AreQueues s.names → s.frames < MOST_COUNT
         → IsInRanges (frame_of s.site (suc s.frames) s.pending) }
@@ -222,23 +224,25 @@ pub fn a_next_frame_is_in_ranges()
         → IsInRanges (frame_of s.site (suc s.frames) s.state) }
 {}
 
-/// What a site knows, and what it has in its buffer, is small enough for a frame: so it is at a new site, and after each step, whatever is asked and taken, since what
-/// would be too much is refused. And each frame that is made carries what is, under a number of a frame (this project's own).
+/// What a site knows, and what it has in its buffer, is small enough for a frame: at a new site, and after each step, whatever is
+/// asked and taken, since a step that would exceed a limit is refused. Each frame that is made carries what is small enough, under
+/// a number of a frame.
 pub fn what_a_site_knows_stays_small_enough_for_a_frame()
     ensures new { IsSmallSite new_site }
     ensures steps { StepsStaySmall }
 {}
 
-/// What a replica stands for has no dot of its site past the last that the site made, whatever frames it took. So the dot of its next add is new, and an add that is
-/// done shows there what `a_done_command_shows` says (RR-8083: each add has a tag of its own).
+/// The knowledge that a replica stands for has no dot of its site past the last that the site made, whatever frames it took. So the
+/// dot of its next add is new, and an add that is done has the effect that `a_done_command_shows` states (RR-8083: each add has a
+/// tag of its own).
 pub fn a_replica_knows_none_of_its_dots_past_the_last()
     ensures { (state : SiteState) (s : SiteKnowledge) → IsKept state → StandsFor state s
         → KnowsNonePast state.site s.known }
 {}
 
-/// What a command that is done shows from then on, told by what its site knows before and after it: the rows of the members that it is for, or the totals of the call
-/// that it counts; all else is shown as before. An add is shown so at a site that knows none of its own dots past its last one, as each replica does, and
-/// each site of a world that events lead to (this project's own).
+/// The effect of a command that is done, by what its site knows before and after it: on the rows of the members that it is for, or
+/// on the totals of the call that it counts; everything else is shown as before. The effect of an add holds at a site that knows
+/// none of its own dots past its last one, as each replica does, and each site of a world that events lead to.
 pub fn a_done_command_shows()
     ensures add { (site : ℕ) (names : List (List ℕ)) (queue interface : List ℕ) (penalty : ℕ)
         (paused : Bool) (label : Label) (k buffer : Knowledge) (o : Operation)
@@ -268,11 +272,21 @@ pub fn a_done_command_shows()
         → Shows site names done k (o ∷ k) }
 {}
 
-/// What a command means is told by its cause, over the queues, the rows and the limits. It is refused as `NoSuchQueue` exactly where it names a queue that isn't in the
-/// list; as `AlreadyThere` exactly where it adds a member that has a row; as `NotThere` exactly where it is a remove or a setting, its queue is in the list if it names
-/// one, and no member that it is for has a row. Where none of these stands it asks for an operation: it is refused as `MembersFull` exactly where that is too much for
-/// what the site knows, for its buffer or by itself; else as `Exhausted` exactly where that wants a count or a time past the greatest; else as `TotalFull` exactly where
-/// it wants a total past the greatest; and makes it exactly where nothing of this stands. A want of memory is no meaning (this project's own).
+/// The meaning of a command, by its cause: by the queues, the rows and the limits.
+///
+/// - `NoSuchQueue`, exactly where it names a queue that isn't in the list.
+/// - `AlreadyThere`, exactly where it adds a member that has a row.
+/// - `NotThere`, exactly where it is a remove or a setting, its queue is in the list if it names one, and no member that it is for
+///   has a row.
+///
+/// Otherwise it asks for an operation:
+///
+/// - `MembersFull`, exactly where that is too much for what the site knows, for its buffer or by itself;
+/// - else `Exhausted`, exactly where it needs a count or a time past the greatest;
+/// - else `TotalFull`, exactly where it needs a total past the greatest;
+/// - else it makes the operation.
+///
+/// Out of memory is no meaning.
 pub fn a_command_is_refused_for_its_cause()
     ensures { (site : ℕ) (names : List (List ℕ)) (change : Change) (k buffer : Knowledge)
         (meant : Meaning)

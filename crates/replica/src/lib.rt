@@ -1,8 +1,7 @@
-//! One site's replica of the queue members: which members there are in each queue, what is set of them, and how many calls
-//! were counted.
+//! One site's replica of the queue members: the members of each queue, their fields, and the numbers of counted calls.
 //!
-//! A replica is changed by commands, and by frames of other sites. Each is refused for a named cause and then changes
-//! nothing, or is done whole.
+//! Commands change a replica, and frames of other sites. Each is refused for a named cause and then changes nothing, or is
+//! done whole.
 #![tactic(auto)]
 
 mod changes;

@@ -8,8 +8,8 @@ use std::alloc::Global;
 use std::marker::Model;
 use thiserror::Error;
 
-/// Why names are no list of queues. Of several faults the first of this list is answered, but that a want of memory at
-/// one name hides a later name that comes twice (this project's own).
+/// Why names are no list of queues. Where several faults apply, the first of this list is returned, except that out of
+/// memory at one name hides a later name that occurs twice.
 #[derive(Clone, Copy, Debug, PartialEq, Eq, Error)]
 pub enum ListFault {
     /// There is no name.
@@ -18,7 +18,7 @@ pub enum ListFault {
     /// There are more than 256 names.
     #[error("more than 256 queues")]
     TooMany,
-    /// A name comes twice.
+    /// A name occurs twice.
     #[error("a queue twice")]
     Twice,
     /// An allocation was refused.
@@ -26,8 +26,8 @@ pub enum ListFault {
     Memory,
 }
 
-/// The queues of the call centre: 1 to 256 names, none twice, in the order in which they were handed in. Each
-/// site has the same list, and a queue's number is its place in it, from 0.
+/// The queues of the call centre: 1 to 256 distinct names, in the given order. Each site has the same list, and a queue's
+/// number is its place in it, from 0.
 #[derive(Drop)]
 pub struct QueueList {
     names: IndexSet<QueueName>,
@@ -45,8 +45,8 @@ impl Model for QueueList {
 }
 
 impl QueueList {
-    /// The list of these names. Faults, in order: `Empty` where there is none; `TooMany` where there are more
-    /// than 256; `Twice` where two are the same; `Memory`, which is also told where it comes before the second of the two.
+    /// The list of these names. Errors, in order: `Empty` if there is none; `TooMany` if there are more than 256; `Twice`
+    /// if two are the same; `Memory`, which may replace a `Twice` if it occurs before the second of the two.
     pub fn new(alloc: Global, names: &[QueueName]) -> Result<QueueList, ListFault>
         ensures value { IfOk result (λ list. list ≡ names.now) }
         ensures within { OnOk result (AreQueues names.now) }
@@ -72,7 +72,7 @@ impl QueueList {
         Ok(QueueList { names: held })
     }
 
-    /// The same list once more. The one fault is want of memory.
+    /// Returns a copy. Fails only when out of memory.
     pub fn copy(&self) -> Result<QueueList, Memory>
         ensures { IfOk result (λ copy. copy ≡ self.now) }
     {
@@ -83,7 +83,7 @@ impl QueueList {
         }
     }
 
-    /// Whether it has the same names as the other, in the same order. It takes no memory.
+    /// Whether it has the same names as the other, in the same order. Takes no memory.
     pub fn same(&self, other: &QueueList) -> bool
         ensures { IsTrue result ↔ (self.now ≡ other.now) }
     {
@@ -107,7 +107,7 @@ impl QueueList {
         self.names.get_index(usize::from(place))
     }
 
-    /// How many queues there are, 1 to 256.
+    /// The number of queues, 1 to 256.
     pub fn len(&self) -> u16
         ensures value { result ≡ length self.now }
         ensures limit { (0 < result) × (result ≤ QUEUES) }

@@ -1,8 +1,7 @@
 use thiserror::Error;
 
-/// Why a command was refused. Where several causes stand, the command answers the first of this
-/// list. `Memory` may stand in place of `MembersFull` and `Exhausted`, and of no other refusal (this
-/// project's own).
+/// Why a command was refused. Where several causes apply, the command returns the first of this list. `Memory` may replace
+/// `MembersFull` and `Exhausted`, and no other refusal.
 #[derive(Clone, Copy, Debug, PartialEq, Eq, Error)]
 pub enum Refusal {
     /// The queue isn't in the list.
@@ -14,7 +13,8 @@ pub enum Refusal {
     /// The member isn't in the queue; without a queue, the interface is in none.
     #[error("not there")]
     NotThere,
-    /// The state or the buffer would have more than 16,384 live dots or 65,536 runs, or what is made these runs by itself.
+    /// The state or the buffer would have more than 16,384 live dots or 65,536 runs, or the operation has these runs by
+    /// itself.
     #[error("members full")]
     MembersFull,
     /// A count or a time would pass 2^40.

@@ -21,16 +21,16 @@ use dots::{CallTotals, MOST_COUNT, Member, Memory, SiteId};
 use std::alloc::Global;
 use std::marker::Model;
 
-/// What one site knows of the queue members and of the calls: its number, the list of the queues, its state, which is all that
-/// it knows, and its buffer, which is what of its own it has put in no frame yet. It has the limits of deltas, and its counts,
-/// times and frame numbers go up to 2^40.
+/// What one site knows of the queue members and of the calls: its number, the list of the queues, its state (everything that it
+/// knows), and its buffer (what it has made and put into no frame yet). It has the limits of deltas, and its counts, times and
+/// frame numbers are at most 2^40.
 #[derive(Drop)]
 pub struct Replica {
     pub(crate) site: SiteId,
     pub(crate) list: QueueList,
     pub(crate) state: Delta,
     pub(crate) pending: Delta,
-    // The numbers that were used last, each 0 before the first.
+    // The last numbers that were used, each 0 before the first.
     pub(crate) count: u64,
     pub(crate) time: u64,
     pub(crate) frames: u64,
@@ -68,7 +68,7 @@ impl Model for Replica {
 }
 
 impl Replica {
-    /// The replica of a site that knows nothing yet, and has used no number. It takes no memory.
+    /// The replica of a new site, which knows nothing and has used no number. Takes no memory.
     pub fn new(alloc: Global, site: SiteId, list: QueueList) -> Replica
         ensures site { result.site ≡ site }
         ensures names { result.names ≡ list }
@@ -93,14 +93,14 @@ impl Replica {
         }
     }
 
-    /// The site whose replica it is. It takes no memory, like all that only reads and has no fault.
+    /// The site of the replica. Takes no memory, like every function that only reads and can't fail.
     pub fn site(&self) -> SiteId
         ensures { result ≡ self.now.site }
     {
         self.site
     }
 
-    /// The queues: 1 to 256 names, none twice.
+    /// The queues: 1 to 256 distinct names.
     pub fn list(&self) -> &QueueList
         ensures value { result.now ≡ self.now.names }
         ensures queues { AreQueues self.now.names }
@@ -108,8 +108,8 @@ impl Replica {
         &self.list
     }
 
-    /// All that the site knows. Whatever frames it took, its own dots in it are those of the counts up to its last one, its own
-    /// stamps are of times up to its last one, and it has live dots and totals of the list's queues alone.
+    /// Everything that the site knows. Whatever frames it took, its own dots in it are those of the counts up to its last one, its
+    /// own stamps are of times up to its last one, and it has live dots and totals only of the list's queues.
     pub fn state(&self) -> &Delta
         ensures value { result.now ≡ self.now.state }
         ensures kept { IsKept self.now }
@@ -118,8 +118,8 @@ impl Replica {
         &self.state
     }
 
-    /// What of its own the site has put in no frame yet: its buffer. It is below the state, and its own stamps and queues are as the
-    /// state's.
+    /// The buffer: what the site has made and put into no frame yet. It is below the state, and its own stamps and queues are
+    /// within the same limits.
     pub fn pending(&self) -> &Delta
         ensures value { result.now ≡ self.now.pending }
         ensures kept { IsKept self.now }
@@ -139,7 +139,7 @@ impl Replica {
         (self.count, self.time, self.frames)
     }
 
-    /// What is set of this member. `None` where it isn't in its queue.
+    /// The row of this member. `None` if it isn't in its queue.
     pub fn row(&self, member: &Member) -> Option<Row<'_>>
         ensures value { option_map row_view result
             ≡ row_of (dot_view_of self.now.state.members) member.now }
@@ -149,8 +149,8 @@ impl Replica {
         self.state.members().row(member)
     }
 
-    /// The members of the queue of this number with their rows, in the order of their interfaces' bytes; none where there is no such
-    /// queue.
+    /// The members of the queue of this number with their rows, in the order of their interfaces' bytes; none if there is no queue
+    /// of this number.
     pub fn rows(&self, queue: u16) -> Rows<'_>
         ensures value { result ≡ rows_of self.now queue }
         ensures meaning { (s : SiteKnowledge) → StandsFor self.now s
@@ -159,8 +159,8 @@ impl Replica {
         self.state.members().rows(queue)
     }
 
-    /// How many calls of the queue of this number were completed, and how many abandoned, at all sites together: each at most
-    /// 64,000,000,000, and 0 where there is no such queue.
+    /// The number of calls of the queue of this number that were completed, and that were abandoned, at all sites together: each at
+    /// most 64,000,000,000, and 0 if there is no queue of this number.
     pub fn totals(&self, queue: u16) -> CallTotals
         ensures value { result ≡ sums_of self.now queue }
         ensures completed { (s : SiteKnowledge) → StandsFor self.now s
@@ -171,8 +171,7 @@ impl Replica {
         self.state.totals().sum(queue)
     }
 
-    /// Another replica that says the same, with the same last numbers, and with no place that isn't used again. The one fault is
-    /// want of memory.
+    /// A replica that says the same, with the same last numbers, and without retired places. Fails only when out of memory.
     pub fn copy(&self) -> Result<Replica, Memory>
         ensures same { IfOk result (λ copy. IsSameSite self.now copy) }
         ensures none_retired { IfOk result (λ copy.
@@ -196,8 +195,7 @@ impl Replica {
         })
     }
 
-    // Makes a change: the state and the buffer take it in, and these are the last count and time then. A refusal leaves all as
-    // it was.
+    // Makes a change: joins it into the state and the buffer, with these as the last count and time. A refusal changes nothing.
     pub(crate) fn make(&mut self, change: Delta, count: u64, time: u64) -> Result<(), Refusal>
         requires { IsChangeOf self.old count time change }
         ensures made { IsMade self.old change count time self.new result }

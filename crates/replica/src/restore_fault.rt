@@ -1,6 +1,6 @@
 use thiserror::Error;
 
-/// Why parts are those of no replica. Of several causes the first of this list is answered (this project's own).
+/// Why parts are those of no replica. Where several causes apply, the first of this list is returned.
 #[derive(Clone, Copy, Debug, PartialEq, Eq, Error)]
 pub enum RestoreFault {
     /// The last count, time or frame number is above 2^40.

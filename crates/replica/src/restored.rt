@@ -18,7 +18,8 @@ use delta::{Delta, JoinFault};
 use dots::{MOST_COUNT, SiteId};
 use std::alloc::Global;
 
-// Whether the own dots of a site in a delta are those of the counts up to this one. It takes no memory, like all that only reads here.
+// Whether the own dots of a site in a delta are those of the counts up to this one. Takes no memory, like every reading function
+// here.
 fn has_own_dots(delta: &Delta, site: SiteId, last: u64) -> bool
     ensures test { IsTrue result ↔ HasOwnDots site last delta.now }
     ensures limits { IsWithinLimits delta.now.members }
@@ -27,7 +28,7 @@ fn has_own_dots(delta: &Delta, site: SiteId, last: u64) -> bool
     context.prefix(site) == last && !has_dot_past(context, site, last)
 }
 
-// Whether no live dot's field of a delta was written by a site later than this.
+// Whether a site wrote no field of a live dot of a delta later than this time.
 fn has_own_stamps(delta: &Delta, site: SiteId, last: u64) -> bool
     ensures { IsTrue result ↔ HasOwnStamps site last delta.now }
 {
@@ -50,7 +51,7 @@ fn are_small(last: (u64, u64, u64)) -> bool
     last.0 <= MOST_COUNT && last.1 <= MOST_COUNT && last.2 <= MOST_COUNT
 }
 
-// Sees that parts keep what those of every replica do, or why not.
+// Checks that parts keep the invariant of every replica; otherwise the fault.
 fn check_parts(
     site: SiteId,
     list: &QueueList,
@@ -82,7 +83,7 @@ fn check_parts(
     Ok(())
 }
 
-// Why deltas can't be joined, as the fault of a restore.
+// The fault of a restore for deltas that can't be joined.
 fn restore_fault(fault: JoinFault) -> RestoreFault
     ensures { result ≡ restore_fault_of fault }
 {
@@ -94,7 +95,7 @@ fn restore_fault(fault: JoinFault) -> RestoreFault
     }
 }
 
-// Joins a buffer into a state, and answers a copy of the buffer.
+// Joins a buffer into a state, and returns a copy of the buffer.
 fn join_buffer(state: &mut Delta, pending: Delta) -> Result<Delta, RestoreFault>
     ensures joined { OnOk result (IsJoinOf state.old pending state.new) }
     ensures agree { OnOk result (DeltasAgree state.old pending) }
@@ -119,14 +120,13 @@ fn join_buffer(state: &mut Delta, pending: Delta) -> Result<Delta, RestoreFault>
 
 impl Replica {
     /// The replica of these parts, which a store has kept: its state, its buffer, and the count, time and frame number that it used
-    /// last. The buffer is joined into the state, which changes nothing where it is below it, as that of every replica is (this
-    /// project's own).
+    /// last. The buffer is joined into the state, which changes nothing if it is below the state, as that of every replica is.
     ///
-    /// Errors, in order, each exactly for its cause: 1 `NumberTooLarge`, where the last count, time or frame number is above 2^40;
-    /// 2 `OwnDots`, where the site's own dots in the state aren't those of the counts from 1 to its last, or the buffer has an own dot past that;
-    /// 3 `OwnStamps`, where a live dot of either has a field that the site wrote later than its last time; 4 `NoSuchQueue`, where a
-    /// live dot or a total of either is of a queue that isn't in the list; 5 `Conflict`, 6 `CellsFull` and 7 `RunsFull`, where the
-    /// buffer can't be joined into the state, as `Delta::prepare` has them; 8 `Memory`.
+    /// Errors, in order, each exactly for its cause: 1 `NumberTooLarge`: the last count, time or frame number is above 2^40; 2
+    /// `OwnDots`: the site's own dots in the state aren't those of the counts from 1 to its last, or the buffer has an own dot past
+    /// that; 3 `OwnStamps`: a live dot of either has a field that the site wrote later than its last time; 4 `NoSuchQueue`: a live
+    /// dot or a total of either is of a queue that isn't in the list; 5 `Conflict`, 6 `CellsFull` and 7 `RunsFull`: the buffer
+    /// can't be joined into the state, as `Delta::prepare` has them; 8 `Memory`.
     pub fn restored(
         alloc: Global,
         site: SiteId,

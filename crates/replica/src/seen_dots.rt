@@ -1,4 +1,4 @@
-//! The dots that a command goes over.
+//! The dots that a command is for.
 ghost use Rattle.std.specs.Prelude.{◌≡◌, ◌≢◌, ◌<◌, [], ◌++◌, IfOk, OnErr, OnOk, Some, None};
 ghost use Rattle.std.specs.Prelude.{map as each};
 ghost use Rattle.std.specs.FinMap as map;
@@ -12,7 +12,7 @@ use dots::{Dot, Interface, Member, Memory};
 use member_orset::MemberSet;
 use std::alloc::Global;
 
-// Puts the live dots of a member after others. Where there is none it takes no memory, nor does all that is here.
+// Appends the live dots of a member to others. Takes no memory if the member has none.
 fn push_dots(list: &mut Vec<Dot>, members: &MemberSet, member: &Member) -> Result<(), Memory>
     ensures list { OnOk result
         (list.new.items ≡ list.old.items ++ dots_of (dot_view_of members.now) member.now) }
@@ -48,7 +48,7 @@ fn dots_by_queue(
     Ok(list)
 }
 
-// The live dots of an interface in all `queues` queues, in their order.
+// The live dots of an interface in all `queues` queues, in order.
 fn dots_of_interface(
     alloc: Global,
     members: &MemberSet,
@@ -67,7 +67,7 @@ fn dots_of_interface(
     Ok(list)
 }
 
-// The live dots of a member, in their order.
+// The live dots of a member, in order.
 fn dots_of_member(
     alloc: Global,
     members: &MemberSet,
@@ -88,8 +88,8 @@ fn dots_of_member(
     Ok(list)
 }
 
-// The live dots of a member, or, without a queue, of the members of this interface in every queue, of which there are so
-// many, in their order.
+// The live dots of a member, or, without a queue, of the members of this interface in every queue, in order.
+// `queues` is the number of queues.
 pub(crate) fn seen_dots(
     alloc: Global,
     members: &MemberSet,

@@ -17,7 +17,7 @@ pub(crate) enum Setting {
     Ring(bool),
 }
 
-// The time of what a register holds; 0 where it holds nothing.
+// The time of a register's entry; 0 if it is empty.
 fn time_of<T>(register: &Register<T>) -> u64
     ensures value { result ≡ time_of register.now }
     ensures limit { result ≤ MOST_COUNT }

@@ -1,12 +1,12 @@
 use thiserror::Error;
 
-/// Why a frame was not taken. Of several causes the first of this list is answered (this project's own).
+/// Why a frame was not taken. Where several causes apply, the first of this list is returned.
 #[derive(Clone, Copy, Debug, PartialEq, Eq, Error)]
 pub enum TakeFault {
-    /// The frame speaks of a queue that isn't in the list.
+    /// The frame has a live dot or a total of a queue that isn't in the list.
     #[error("no such queue")]
     NoSuchQueue,
-    /// The frame says of the site what the site hasn't made.
+    /// The frame has a dot, a write or a total of the site that the site hasn't made.
     #[error("not this site's own")]
     NotMine,
     /// A dot is live in the frame and at the site with two members, or with a field of one stamp and two values.

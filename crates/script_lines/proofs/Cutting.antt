@@ -63,7 +63,7 @@ stream_cut [] n h = absurd (omega (arith, h.0))
 stream_cut (b ∷ bytes) zero h = rw h.2 refl
 stream_cut (b ∷ bytes) (suc n) h = rw (h.1 0 (omega arith)) (ap (λ t. b ∷ t) (stream_cut bytes n (first_tail 124 b bytes n h)))
 
--- and behind the last one
+-- the stream of fields after the last bar
 pub stream_last : (bytes : List ℕ) → IsNowhere 124 bytes → stream_of bytes ≡ bytes ++ codes "\r\n\r\n"
 stream_last [] h = refl
 stream_last (b ∷ bytes) h = rw (h 0 (omega arith)) (ap (λ t. b ∷ t) (stream_last bytes (nowhere_tail 124 b bytes h)))
@@ -74,7 +74,7 @@ parts_cut [] n h = absurd (omega (arith, h.0))
 parts_cut (b ∷ bytes) zero h = rw h.2 refl
 parts_cut (b ∷ bytes) (suc n) h = rw (h.1 0 (omega arith)) (ap (onto_first b) (parts_cut bytes n (first_tail 124 b bytes n h)))
 
--- and without a bar
+-- the parts of bytes without a bar
 pub parts_last : (bytes : List ℕ) → IsNowhere 124 bytes → slice_split is_bar bytes ≡ bytes ∷ []
 parts_last [] h = refl
 parts_last (b ∷ bytes) h = rw (h 0 (omega arith)) (ap (onto_first b) (parts_last bytes (nowhere_tail 124 b bytes h)))
@@ -87,7 +87,7 @@ blank_cut (b ∷ bytes) (suc n) h =
     let rest = blank_cut bytes n (first_tail 32 b bytes n h) in
     rw (h.1 0 (omega arith)) (ap (λ t. b ∷ t) rest.0, rest.1)
 
--- and without a blank
+-- the bytes before the first blank and after it, in a line without a blank
 pub blank_none : (bytes : List ℕ) → IsNowhere 32 bytes → (before_blank bytes ≡ bytes) × (behind_blank bytes ≡ None)
 blank_none [] h = (refl, refl)
 blank_none (b ∷ bytes) h =
@@ -102,7 +102,7 @@ pub behind_found : {A : Type 0} (now : A → List ℕ) (r : Option A) (front byt
 behind_found now None front bytes h = sym (behind_is front bytes ∙ ap (λ t. cond t (Some (drop (length front) bytes)) None) h)
 behind_found now (Some x) front bytes h = ap Some h.1 ∙ sym (behind_is front bytes ∙ ap (λ t. cond t (Some (drop (length front) bytes)) None) h.0)
 
--- the same, with what follows the LF or the bar as the code counts
+-- the result of a search for the front, with the bytes after the LF or the bar as the code counts them
 pub lines_found : (bytes : List ℕ) (n : ℕ) (front : List ℕ) → IsFirstAt 10 bytes n
     → lines_after front bytes ≡ content (front ++ take n bytes) ∷ lines_of (drop (n + 1) bytes)
 lines_found bytes n front h = rw add-one (lines_cut bytes n front h)
@@ -126,7 +126,7 @@ stream_goes_on fields written rest new after n whole first is_new is_after =
     ∙ append_assoc (written ++ take n rest) (codes "\r\n") tail ∙ append_assoc written (take n rest) (codes "\r\n" ++ tail)
     ∙ ap (λ t. written ++ t) (sym (stream_found rest n first)) ∙ whole
 
--- and behind the last one to the end
+-- what is written of the stream of the fields, all but the rest, goes on after the last bar to the end
 pub stream_ends : (fields written rest new last : List ℕ) → written ++ stream_of rest ≡ stream_of fields → IsNowhere 124 rest
     → new ≡ written ++ rest ++ codes "\r\n" → last ≡ new ++ codes "\r\n" → last ≡ stream_of fields
 stream_ends fields written rest new last whole none is_new is_last =

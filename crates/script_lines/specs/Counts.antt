@@ -1,4 +1,4 @@
--- How many sites a script may have.
+-- The number of sites of a script.
 use Rattle.std.specs.Prelude.{ℕ, ◌<◌, ◌≤◌}
 use Rattle.dots.specs.declared.limits.TheConstants.{SITES}
 

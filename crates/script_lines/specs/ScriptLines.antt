@@ -1,4 +1,4 @@
--- The lines of a script, and what each of them asks (this project's own).
+-- The lines of a script, and what each of them asks.
 use Rattle.std.specs.Prelude.{ℕ, ◌==◌, Bool, nat_lt, List, [], ◌∷◌, ◌++◌, Option, Some, None, codes, if◌then◌else◌}
 use Rattle.std.specs.Option.{option_and_then, option_map}
 use Rattle.std.specs.List.{filter_map, slice_split}
@@ -10,13 +10,13 @@ use Rattle.ami_session.specs.FieldValues.{name_of}
 use Rattle.dots.specs.declared.calls.Calls.{Calls}
 use Rattle.dots.specs.declared.calls.Calls.TheVariants.{Completed, Abandoned}
 
--- the lines of bytes behind the last LF: these bytes as one line, or none where there are no bytes
+-- the lines of bytes after the last LF: these bytes as one line, or none where there are no bytes
 abbrev pub last_line : List ℕ → List (List ℕ)
 last_line [] = []
 last_line (b ∷ bs) = (b ∷ bs) ∷ []
 
--- the lines of a script from the middle of a line on, of which `front` came before: LF ends a line,
--- and one CR right before it belongs to the end
+-- the lines of a script from the middle of a line on, after the part `front` of that line: LF ends a line, and one
+-- CR right before it belongs to the end
 abbrev pub lines_after : List ℕ → List ℕ → List (List ℕ)
 lines_after front [] = last_line front
 lines_after front (b ∷ bs) = if b == 10 then content front ∷ lines_after [] bs else lines_after (front ++ b ∷ []) bs
@@ -38,7 +38,7 @@ pub data Sense : Type 0 where
   Show : (entry : ℕ) → Sense
   Unknown : Sense
 
--- the bytes behind a front, where the bytes begin with that; else `None`
+-- the bytes after a front, where the bytes begin with that; else `None`
 abbrev pub behind : List ℕ → List ℕ → Option (List ℕ)
 behind [] bytes = Some bytes
 behind (f ∷ front) [] = None
@@ -62,17 +62,17 @@ first_sense [] = Unknown
 first_sense (None ∷ others) = first_sense others
 first_sense (Some sense ∷ others) = sense
 
--- `sense` where nothing more stands in the line, else `Unknown`
+-- `sense` if the line has no further word, else `Unknown`
 abbrev pub end_sense : Sense → List ℕ → Sense
 end_sense sense [] = sense
 end_sense sense (b ∷ bs) = Unknown
 
--- what `sense` makes of the number of an entry; `Unknown` where there is none
+-- the sense of the number of an entry; `Unknown` if there is none
 abbrev pub entry_sense : (ℕ → Sense) → Option ℕ → Sense
 entry_sense sense None = Unknown
 entry_sense sense (Some entry) = sense entry
 
--- what the words behind the number of `site` ask of it, by the first of them
+-- what the words after the number of `site` ask of it, by the first of them
 abbrev pub words_sense : ℕ → List ℕ → Sense
 words_sense site words = first_sense (
     option_map (Message site) (behind (codes "ami ") words)
@@ -85,24 +85,24 @@ words_sense site words = first_sense (
     ∷ []
     )
 
--- the bytes of a line before its first blank; all where it has none
+-- the bytes of a line before its first blank; all if it has none
 abbrev pub before_blank : List ℕ → List ℕ
 before_blank [] = []
 before_blank (b ∷ bs) = if b == 32 then [] else b ∷ before_blank bs
 
--- the bytes of a line behind its first blank; `None` where it has none
+-- the bytes of a line after its first blank; `None` where it has none
 abbrev pub behind_blank : List ℕ → Option (List ℕ)
 behind_blank [] = None
 behind_blank (b ∷ bs) = if b == 32 then Some bs else behind_blank bs
 
--- what a line asks by the site that its first word names and the words behind that; `Unknown` where
--- it names no site, or nothing stands behind it
+-- what a line asks by the site that its first word names and the words after that; `Unknown` where it names no
+-- site, or nothing follows it
 abbrev pub site_sense : Option ℕ → Option (List ℕ) → Sense
 site_sense (Some site) (Some words) = words_sense site words
 site_sense site words = Unknown
 
--- what `line` asks of one of `sites` sites, or, where it begins with `show `, of the pool; the last
--- argument is what stands behind that word
+-- what `line` asks of one of `sites` sites, or, where it begins with `show `, of the pool; the last argument is
+-- what follows that word
 abbrev pub asked_in : ℕ → List ℕ → Option (List ℕ) → Sense
 asked_in sites line (Some word) = entry_sense Show (entry_in word)
 asked_in sites line None = site_sense (site_in sites (before_blank line)) (behind_blank line)
@@ -136,16 +136,16 @@ abbrev pub first_part : List (List ℕ) → List ℕ
 first_part [] = []
 first_part (part ∷ parts) = part
 
--- the parts of a list behind the first one
+-- the parts of a list after the first one
 abbrev pub later_parts : List (List ℕ) → List (List ℕ)
 later_parts [] = []
 later_parts (part ∷ parts) = parts
 
--- the queue of which an `offer` line asks: what stands before the first bar, where that is a queue's name
+-- the queue of an `offer` line: the bytes before the first bar, if they are a queue's name
 abbrev pub queue_in : List ℕ → Option (List ℕ)
 queue_in parts = name_of (first_part (slice_split is_bar parts))
 
--- the interfaces that an `offer` line says were tried: the parts behind the first bar, without
--- those that are no interface
+-- the interfaces that an `offer` line says were tried: the parts after the first bar, without those that are no
+-- interface
 abbrev pub tried_in : List ℕ → List (List ℕ)
 tried_in parts = filter_map name_of (later_parts (slice_split is_bar parts))

@@ -1,9 +1,9 @@
--- What a line that was read asks, without where its bytes lie in memory.
+-- The sense of a line as contracts see it, without where its bytes are in memory.
 use Rattle.script_lines.specs.declared.line.Line.{Line}
 use Rattle.script_lines.specs.declared.line.Line.TheVariants as line
 use Rattle.script_lines.specs.ScriptLines.{Sense, Nothing, Message, Count, Offer, Cut, Whole, Take, Show, Unknown}
 
--- what a line that was read asks, with its texts as the bytes that they have now
+-- the sense of a line, with its texts as bytes
 abbrev pub sense : Line → Sense
 sense line.Nothing = Nothing
 sense (line.Message site fields) = Message site fields.now

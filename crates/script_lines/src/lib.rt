@@ -1,6 +1,6 @@
 //! The lines of a script: how a script is cut into them, and what each of them asks (this project's own).
 //!
-//! What a line does at the sites stands in the crate `scripts`.
+//! The crate `scripts` defines the effect of a line at the sites.
 #![tactic(auto)]
 
 mod line;

@@ -1,4 +1,4 @@
-//! The lines of a script (this project's own).
+//! The lines of a script.
 ghost use Rattle.std.specs.Prelude.{◌≡◌, ◌<◌, ◌∷◌, length};
 ghost use Rattle.std.specs.Option.{option_copied};
 ghost use Rattle.script_lines.specs.ScriptLines.{behind, before_blank, behind_blank};
@@ -20,7 +20,7 @@ pub enum Line<'a> {
     Message(SiteId, &'a [u8]),
     /// `S completed QUEUE`, `S abandoned QUEUE`: a call of the queue is to be counted.
     Count(SiteId, Calls, &'a [u8]),
-    /// `S offer QUEUE|TRIED..`: an offer of the queue, beside the interfaces that were tried.
+    /// `S offer QUEUE|TRIED..`: an offer of the queue, without the tried interfaces.
     Offer(SiteId, &'a [u8]),
     /// `S cut`: a frame of the site's buffer.
     Cut(SiteId),
@@ -34,7 +34,8 @@ pub enum Line<'a> {
     Unknown,
 }
 
-/// The first line of bytes, without its LF and one CR before that, and what follows it. The last line may lack its end.
+/// The first line of bytes, without its LF and one CR before that, and the bytes after it. The last line may lack its
+/// end.
 pub fn cut_line(bytes: &[u8]) -> (&[u8], &[u8])
     requires { 0 < length bytes.now }
     ensures lines { lines_of bytes.now ≡ result.0.now ∷ lines_of result.1.now }
@@ -46,7 +47,7 @@ pub fn cut_line(bytes: &[u8]) -> (&[u8], &[u8])
     }
 }
 
-// What stands before the first blank of a line, and what stands behind it, if there is one.
+// The bytes before the first blank of a line, and those after it, if there is one.
 fn cut_at_blank(line: &[u8]) -> (&[u8], Option<&[u8]>)
     ensures before { result.0.now ≡ before_blank line.now }
     ensures behind { option_copied result.1 ≡ behind_blank line.now }
@@ -57,14 +58,14 @@ fn cut_at_blank(line: &[u8]) -> (&[u8], Option<&[u8]>)
     }
 }
 
-// What stands behind `front`, where `bytes` begin with that; else `None`.
+// The bytes after `front`, if `bytes` begin with it; else `None`.
 fn behind<'a>(front: &[u8], bytes: &'a [u8]) -> Option<&'a [u8]>
     ensures { option_copied result ≡ behind front.now bytes.now }
 {
     bytes.strip_prefix(front)
 }
 
-// What the words behind the number of a site ask of that.
+// The ask of a site, by the words after its number.
 fn read_words(site: SiteId, words: &[u8]) -> Line<'_>
     ensures { sense result ≡ words_sense site words.now }
 {

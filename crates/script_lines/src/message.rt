@@ -11,10 +11,10 @@ use bstr::ByteSlice;
 use dots::Memory;
 use std::alloc::Global;
 
-// For how many bytes a stream has room at first beyond those of its fields: most need no more.
+// The room in bytes that a stream has at first, beyond the bytes of its fields: most need no more.
 const MORE_ROOM: usize = 16;
 
-// Writes one line at the end, with CR and LF behind it.
+// Appends one line, with CR and LF after it.
 fn push_line(stream: &mut Vec<u8>, line: &[u8]) -> Result<(), Memory>
     ensures { OnOk result (stream.new.items ≡ stream.old.items ++ line.now ++ codes "\r\n") }
 {
@@ -22,7 +22,7 @@ fn push_line(stream: &mut Vec<u8>, line: &[u8]) -> Result<(), Memory>
     stream.extend_from_slice(b"\r\n")
 }
 
-// The stream of `fields`: a line for each part between bars, and an empty line behind them.
+// The stream of `fields`: a line for each part between bars, and an empty line after them.
 fn stream_of(alloc: Global, fields: &[u8]) -> Result<Vec<u8>, Memory>
     ensures { IfOk result (λ stream. stream.items ≡ stream_of fields.now) }
 {
@@ -47,7 +47,7 @@ fn feed_of(alloc: Global, fields: &[u8]) -> Result<Feed, Memory>
     Ok(feed)
 }
 
-// No message where the stream has this fault; but want of memory, which is no fault of the stream, is answered as such.
+// No message if the stream has this fault; but out of memory, which is no fault of the stream, is returned as an error.
 fn without_message(fault: FeedFault) -> Result<Option<Message>, Memory>
     ensures none { IfOk result (λ found. found ≡ None) }
     ensures stream { OnOk result (fault ≢ FeedFault.Memory) }
@@ -59,7 +59,7 @@ fn without_message(fault: FeedFault) -> Result<Option<Message>, Memory>
     }
 }
 
-// `message`, which the feed gave, where no other message and no fault follows; else `None`.
+// `message` of the feed, if no other message and no fault follows; else `None`.
 fn only_message(feed: Feed, message: Message) -> Result<Option<Message>, Memory>
     requires { feed.fault ≡ None }
     ensures one { IfOk result (λ found. IfSome found (λ only. only ≡ message)) }
@@ -75,7 +75,7 @@ fn only_message(feed: Feed, message: Message) -> Result<Option<Message>, Memory>
     }
 }
 
-/// The message whose lines stand between bars; `None` where they are not exactly one message. The one fault is want of
+/// The message whose lines stand between bars; `None` if they are not exactly one message. Fails only when out of
 /// memory.
 pub fn message_of(alloc: Global, fields: &[u8]) -> Result<Option<Message>, Memory>
     ensures one { IfOk result (λ found. IfSome found (λ message. IsMessage fields.now message)) }

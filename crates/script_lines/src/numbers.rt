@@ -1,4 +1,4 @@
-//! The numbers of a line: of a site, and of an entry (this project's own).
+//! The numbers of a line: of a site, and of an entry.
 ghost use Rattle.std.specs.Prelude.{◌≡◌};
 ghost use Rattle.script_lines.specs.ScriptLines.{entry_in, site_in};
 

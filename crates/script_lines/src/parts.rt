@@ -1,4 +1,4 @@
-//! The parts between the bars of an `offer` line (this project's own).
+//! The parts between the bars of an `offer` line.
 ghost use Rattle.std.specs.Prelude.{◌≡◌, ◌∷◌, ◌<◌, length, IfOk, IfSome};
 ghost use Rattle.std.specs.List.{filter_map, slice_split};
 ghost use Rattle.std.specs.Option.{option_copied};
@@ -10,7 +10,7 @@ use bstr::ByteSlice;
 use dots::{Interface, Memory};
 use std::alloc::Global;
 
-/// What stands before the first bar of `parts`, and what stands behind it, if there is one.
+/// The bytes before the first bar of `parts`, and those after it, if there is one.
 pub fn cut_at_bar(parts: &[u8]) -> (&[u8], Option<&[u8]>)
     ensures parts { slice_split is_bar parts.now
         ≡ result.0.now ∷ parts_of (option_copied result.1) }
@@ -22,7 +22,7 @@ pub fn cut_at_bar(parts: &[u8]) -> (&[u8], Option<&[u8]>)
     }
 }
 
-/// The interfaces among the parts between bars; what is no interface is left out. The one fault is want of memory.
+/// The interfaces among the parts between bars; what is no interface is left out. Fails only when out of memory.
 pub fn interfaces_of(alloc: Global, parts: Option<&[u8]>) -> Result<Vec<Interface>, Memory>
     ensures { IfOk result (λ tried. tried.items
         ≡ filter_map name_of (parts_of (option_copied parts.entry))) }

@@ -4,7 +4,7 @@ ghost use Rattle.script_lines.specs.Counts.{IsSiteCount};
 use dots::SITES;
 use std::marker::Model;
 
-/// How many sites a script has, 1 to 64 (this project's own).
+/// The number of sites of a script, 1 to 64.
 #[derive(Clone, Copy, Debug, PartialEq, Eq)]
 pub struct SiteCount {
     sites: u16,
@@ -36,7 +36,7 @@ impl SiteCount {
         }
     }
 
-    /// How many sites the script has, 1 to 64.
+    /// The number of sites of the script, 1 to 64.
     pub fn get(self) -> u16
         ensures value { result ≡ self }
         ensures limit { IsSiteCount result }

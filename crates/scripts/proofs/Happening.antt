@@ -20,7 +20,7 @@ use Rattle.scripts.specs.Answers.{frame_text, no_entry, outcome_text}
 use Rattle.scripts.specs.Script.{IsEntryShown, ScriptSites, given_by_event, given_by_reaction, text_of_offer, waited_reply}
 use Rattle.scripts.specs.LineSteps.{StandsForGiven, IsHappening, StandsAt}
 
--- one event has happened, and memory was not wanting
+-- one event has happened, and didn't run out of memory
 pub one_happened : LeadsOn → (place : ScriptSites) (old new : WorldState) (w : World) (e : Event) (o : Outcome) → place.names ≡ old.names → new.names ≡ old.names → length new.sites ≡ length old.sites
     → StandsAt old w → HasHappened new w e o → (o ≡ NoMemory → ⊥) → IsHappening place w e new o
 one_happened leads place old new w e o names kept count at (inr wanting) done = absurd (done wanting.0)
@@ -53,7 +53,7 @@ offered_some state w site replica queue tried text at is offers =
     let found = correspond_get (IsSiteOf state.names) state.sites w.sites at.stands.sites site replica (sym is) in
     offers found.0 found.2.stands ∙ (λ i. text_of_offer (found.2.names_are i) (sym found.1 i) queue tried)
 
--- and at one that isn't
+-- the offer of a queue at a site that isn't there
 pub offered_none : (state : WorldState) (w : World) (site : ℕ) (queue : Option (List ℕ)) (tried : List (List ℕ)) (text : List ℕ) → StandsAt state w
     → None ≡ slice_get state.sites site → text ≡ [] → text ≡ text_of_offer state.names (slice_get w.sites site) queue tried
 offered_none state w site queue tried text at is empty =
@@ -66,7 +66,7 @@ shown_some state w place frame text at is shown =
     let found = correspond_get IsFrameOf state.pool w.pool at.stands.pool place frame (sym is) in
     subst (λ entry. IsEntryShown place entry text) (sym found.1) (shown.0, (record { frame = frame; is = found.2; spells = shown.1 }), shown.2)
 
--- and one that isn't there
+-- the output of an entry that isn't there
 pub shown_none : (state : WorldState) (w : World) (place : ℕ) (text : List ℕ) → StandsAt state w → None ≡ slice_get state.pool place → text ≡ no_entry
     → IsEntryShown place (slice_get w.pool place) text
 shown_none state w place text at is none =

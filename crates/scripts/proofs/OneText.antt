@@ -27,7 +27,7 @@ OneList = (bytes : List ℕ) (messages others : Messages) (ending other : Ending
 abbrev pub HasOneDelta : Type 0
 HasOneDelta = (x y : DeltaState) (k : Knowledge) → IsDeltaOf x k → IsDeltaOf y k → IsSame x y
 
--- and a frame has one spelling in the version that is written
+-- a frame has one encoding in the version that sites write
 abbrev pub HasOneSpelling : Type 0
 HasOneSpelling = (x y : Frame) (a b : List ℕ) → IsSameFrame x y → SpellsIn VERSION x a → SpellsIn VERSION y b → a ≡ b
 
@@ -79,7 +79,7 @@ one_given one delta spelling place w number (Message site fields) given other (i
 one_given one delta spelling place w number (Message site fields) given other (inr a) (inl b) = absurd (a.0 b.0 b.1)
 one_given one delta spelling place w number (Message site fields) given other (inr a) (inr b) = b.1 ∙ sym a.1
 
--- and so do lines
+-- the output of lines is one text
 module _ (one : OneList) (delta : HasOneDelta) (spelling : HasOneSpelling) where
   pub text_one : (place : ScriptSites) (w : World) (number : ℕ) (lines : List (List ℕ)) (text other : List ℕ) (unknown others : ℕ)
       → LinesGive place w number lines text unknown → LinesGive place w number lines other others → (other ≡ text) × (others ≡ unknown)
@@ -92,7 +92,7 @@ module _ (one : OneList) (delta : HasOneDelta) (spelling : HasOneSpelling) where
         b.6 ∙ (λ i. unknown_in (same i) + rest.1 i) ∙ sym a.6,
       )
 
-  -- what was begun of lines is a front of their text
+  -- what was begun of lines is a prefix of their text
   pub begun_front : (place : ScriptSites) (w : World) (number : ℕ) (lines : List (List ℕ)) (text front : List ℕ) (unknown : ℕ)
       → LinesGive place w number lines text unknown → AreBegun place w number lines front → IsFront front text
   begun_front place w number [] text front unknown a b = ([], a.0 ∙ sym b ∙ sym (append-nil front))
@@ -106,7 +106,7 @@ module _ (one : OneList) (delta : HasOneDelta) (spelling : HasOneSpelling) where
       let rest = begun_front place a.0.after (number + 1) lines a.1 more a.2 a.4 moved in
       (rest.0, a.5 ∙ (λ i. (sym same i).text ++ rest.1 i) ∙ sym (append_assoc given.text more rest.0) ∙ ap (λ t. t ++ rest.0) (sym is))
 
-  -- and so is what was done of them
+  -- the output of lines that were done is a prefix of the text
   pub done_front : (place : ScriptSites) (w : World) (number : ℕ) (lines : List (List ℕ)) (text front : List ℕ) (unknown : ℕ)
       → LinesGive place w number lines text unknown → AreDone place w number lines front → IsFront front text
   done_front place w number lines text front unknown is done = begun_front place w number lines text front unknown is (done_begun place w number lines front done)

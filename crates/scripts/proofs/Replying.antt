@@ -76,7 +76,7 @@ gave_line place w number line new output before after is written = record {
   is = is.understood;
 }
 
--- or a front of it
+-- a prefix of the output of a line was written
 pub began_line : (place : ScriptSites) (w : World) (number : ℕ) (line : List ℕ) (new : WorldState) (output : Output) (before after : Option (List ℕ))
     → IsOutput place w number (sense_of place.sites line) new output → HasTaken before after output.text.items → BeganLine place w number line before after
 began_line place w number line new output before after is begun = record {

@@ -51,7 +51,7 @@ going_start place start script before state stands = record {
   is_done = λ more is. is;
 }
 
--- and goes on by a line
+-- a script goes on by a line
 pub going_on : (place : ScriptSites) (start : World) (script : List ℕ) (before : Option (List ℕ)) (state new : WorldState) (rest line others : List ℕ)
     (number unknown later : ℕ) (now after : Option (List ℕ)) (understood : Bool) (here : ScriptSites) → Going place start script before state rest number unknown now
     → lines_of rest ≡ line ∷ lines_of others

@@ -1,5 +1,5 @@
--- What a script writes of what comes of its lines: `done`, `taken`, `refused` with the refusal's name, an entry's number or its frame, or the
--- offer (this project's own).
+-- The output of a script for the outcomes of its lines: `done`, `taken`, `refused` with the refusal's name, an entry's number or
+-- its frame, or the offer.
 use Rattle.std.specs.Prelude.{ℕ, List, [], ◌++◌, Option, Some, None, Ok, Err, codes, decimal}
 use Rattle.hex.specs.Hex.{encode_lower}
 use Rattle.offer.specs.declared.offered.Offer.{Offer}
@@ -24,12 +24,12 @@ refusal_name refusal.Exhausted = codes "Exhausted"
 refusal_name refusal.TotalFull = codes "TotalFull"
 refusal_name refusal.Memory = codes "Memory"
 
--- the name of why no frame was made
+-- the name of the fault of a cut or a whole
 abbrev pub cut_fault_name : CutFault → List ℕ
 cut_fault_name cut_fault.Exhausted = codes "Exhausted"
 cut_fault_name cut_fault.Memory = codes "Memory"
 
--- the name of why a frame wasn't taken
+-- the name of the fault of a take
 abbrev pub take_fault_name : TakeFault → List ℕ
 take_fault_name take_fault.NoSuchQueue = codes "NoSuchQueue"
 take_fault_name take_fault.NotMine = codes "NotMine"
@@ -56,11 +56,11 @@ entry_text entry = codes "entry " ++ (decimal entry ++ codes "\n")
 abbrev pub no_entry : List ℕ
 no_entry = codes "no entry\n"
 
--- what is written of the line of this number, where it isn't understood
+-- the output of the line of this number, if it isn't understood
 abbrev pub unknown_text : ℕ → List ℕ
 unknown_text number = codes "line " ++ (decimal number ++ codes ": not understood\n")
 
--- the lines of what comes of an event; no line is of a site that isn't there, nor of want of memory
+-- the lines of an outcome; `NoSite` and `NoMemory` have none
 abbrev pub outcome_text : Outcome → List ℕ
 outcome_text (outcome.Answered answer) = answer_text answer
 outcome_text (outcome.Cut (Ok (Some entry))) = entry_text entry
@@ -77,7 +77,7 @@ abbrev pub offer_line : Option Offer → List ℕ
 offer_line None = codes "offer none\n"
 offer_line (Some offer) = codes "offer " ++ (decimal offer.penalty ++ (codes " " ++ (offer.interface ++ codes "\n")))
 
--- the same, where there is such a queue
+-- the line of a queue's offer; where there is no such queue, its refusal
 abbrev pub offer_text : Option (Option Offer) → List ℕ
 offer_text None = refused_text (refusal_name refusal.NoSuchQueue)
 offer_text (Some offer) = offer_line offer

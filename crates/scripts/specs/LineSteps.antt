@@ -1,4 +1,4 @@
--- What single steps of a script do to sites that stand for a world of operations.
+-- The effects of single steps of a script on sites that stand for a world of operations.
 use Rattle.std.specs.Prelude.{ℕ, ◌≡◌, Bool, false, List, length, Option}
 use Rattle.std.specs.Io.KnownBytes.{Appends}
 use Rattle.ami_text.specs.Devices.{HasTaken}
@@ -30,7 +30,7 @@ pub record IsHappening (place : ScriptSites) (w : World) (e : Event) (new : Worl
   pub stands : StandsAt new (happens place.names w e).0
   pub is : o ≡ (happens place.names w e).1
 
--- sites stand for the world after something was given, and this is its text
+-- sites stand for the world after an output, and this is its text
 pub record StandsForGiven (given : Given) (new : WorldState) (text : List ℕ) : Type 0 where
   pub stands : StandsAt new given.after
   pub is : text ≡ given.text
@@ -47,7 +47,7 @@ pub record IsUnknown (number : ℕ) (output : Output) : Type 0 where
   pub is : output.text.items ≡ unknown_text number
   pub understood : output.understood ≡ false
 
--- a line was run, and what it gives was written
+-- a line was run, and its output was written
 pub record GaveLine (place : ScriptSites) (w : World) (number : ℕ) (line : List ℕ) (new : WorldState) (before after : Option (List ℕ)) (understood : Bool) : Type 0 where
   pub given : Given
   pub gives : LineGives place w number line given
@@ -55,7 +55,7 @@ pub record GaveLine (place : ScriptSites) (w : World) (number : ℕ) (line : Lis
   pub taken : Appends before after given.text
   pub is : understood ≡ given.understood
 
--- a line was run, and the front of what it gives was written
+-- a line was run, and a prefix of its output was written
 pub record BeganLine (place : ScriptSites) (w : World) (number : ℕ) (line : List ℕ) (before after : Option (List ℕ)) : Type 0 where
   pub given : Given
   pub gives : LineGives place w number line given

@@ -1,4 +1,4 @@
--- The text of a script: what its lines write, one after another, over the world of operations (this project's own).
+-- The text of a script: the output of its lines in order, over the world of operations.
 use Rattle.std.specs.Prelude.{ℕ, ◌≡◌, ◌≤◌, ◌+◌, ◌⊎◌, Bool, true, false, List, [], ◌∷◌, ◌++◌, length, slice_get, Option, Some, None, if◌then◌else◌}
 use Rattle.std.specs.Option.{option_and_then}
 use Rattle.std.specs.Io.KnownBytes.{Appends, Consumes}
@@ -31,13 +31,13 @@ pub record ScriptSites : Type 0 where
   pub sites : ℕ
   pub names : List (List ℕ)
 
--- what a line gives: the world after it, what is written, and whether the line is understood
+-- the result of a line: the world after it, its output, and whether the line is understood
 pub record Given : Type 0 where
   pub after : World
   pub text : List ℕ
   pub understood : Bool
 
--- an event gives the lines of what comes of it
+-- an event gives the lines of its outcome
 abbrev pub given_by_event : ScriptSites → World → Event → Given
 given_by_event place w e = let h = happens place.names w e in record { after = h.0; text = outcome_text h.1; understood = true }
 
@@ -45,12 +45,12 @@ given_by_event place w e = let h = happens place.names w e in record { after = h
 abbrev pub trusted_session : SessionState
 trusted_session = record { greeting = own_greeting; login = None; logged_in = true; tries = None }
 
--- the reply to a message that waits for what comes of its ask
+-- the reply to a message that waits for the outcome of its ask
 abbrev pub waited_reply : Waiting → Outcome → List ℕ
 waited_reply waiting (outcome.Answered answer) = answer_reply waiting answer
 waited_reply waiting other = []
 
--- what is written of what a session does upon a message; where it asks, the site is asked
+-- the output of a session's reaction to a message; if it asks, the site is asked
 abbrev pub given_by_reaction : ScriptSites → World → ℕ → Reaction → Given
 given_by_reaction place w site (Replies bytes) = record { after = w; text = bytes; understood = true }
 given_by_reaction place w site (Ends bytes) = record { after = w; text = bytes; understood = true }
@@ -71,7 +71,7 @@ abbrev pub given_by_count : ScriptSites → World → ℕ → Calls → Option (
 given_by_count place w site calls None = record { after = w; text = refused_text (refusal_name NoSuchQueue); understood = true }
 given_by_count place w site calls (Some queue) = given_by_event place w (event.Ask site (count_of calls queue))
 
--- what a queue offers at a site that knows this, of the rows that it knows, beside those that were tried; no line is of a site that isn't there
+-- the offer of a queue at a site that knows this, without the members that were tried; no line if there is no such site
 abbrev pub text_of_offer : List (List ℕ) → Option SiteKnowledge → Option (List ℕ) → List (List ℕ) → List ℕ
 text_of_offer names None queue tried = []
 text_of_offer names (Some s) queue tried = offer_text (option_and_then (λ name. offered names (rows_of (dot_view s.known)) name tried) queue)
@@ -99,11 +99,11 @@ IsEntryShown place (Some entry) text = (bytes : List ℕ) × AreOfEntry place en
 abbrev pub written_alone : World → List ℕ → Given
 written_alone w text = record { after = w; text = text; understood = true }
 
--- a line that isn't understood says so, by its number
+-- a line that isn't understood gives a line with its number
 abbrev pub not_understood : World → ℕ → Given
 not_understood w number = record { after = w; text = unknown_text number; understood = false }
 
--- what the line of this number gives, by what it asks; fields that aren't exactly one message aren't understood
+-- the result of the line of this number, by its meaning; fields that aren't exactly one message aren't understood
 abbrev pub SenseGives : ScriptSites → World → ℕ → Sense → Given → Type 0
 SenseGives place w number Nothing given = given ≡ written_alone w []
 SenseGives place w number (Message site fields) given =
@@ -117,15 +117,15 @@ SenseGives place w number (Take site entry) given = given ≡ given_by_event pla
 SenseGives place w number (Show entry) given = (text : List ℕ) × IsEntryShown entry (slice_get w.pool entry) text × (given ≡ written_alone w text)
 SenseGives place w number Unknown given = given ≡ not_understood w number
 
--- what a line of this number gives
+-- the result of a line of this number
 abbrev pub LineGives : ScriptSites → World → ℕ → List ℕ → Given → Type 0
 LineGives place w number line given = SenseGives place w number (sense_of place.sites line) given
 
--- how many lines aren't understood, of one
+-- 1 if the line isn't understood, otherwise 0
 abbrev pub unknown_in : Given → ℕ
 unknown_in given = if given.understood then 0 else 1
 
--- what lines give, the first of which has this number: their text, and how many of them aren't understood
+-- the output of lines, the first of which has this number: their text, and how many of them aren't understood
 abbrev pub LinesGive : ScriptSites → World → ℕ → List (List ℕ) → List ℕ → ℕ → Type 0
 LinesGive place w number [] text unknown = (text ≡ []) × (unknown ≡ 0)
 LinesGive place w number (line ∷ lines) text unknown =
@@ -133,11 +133,12 @@ LinesGive place w number (line ∷ lines) text unknown =
     × LinesGive place given.after (number + 1) lines more others
     × (text ≡ given.text ++ more) × (unknown ≡ unknown_in given + others)
 
--- a list is the front of another
+-- a list is a prefix of another
 abbrev pub IsFront : List ℕ → List ℕ → Type 0
 IsFront front whole = (rest : List ℕ) × (whole ≡ front ++ rest)
 
--- what was begun of lines, the first of which has this number: nothing; a front of what the first line gives; or all of that, and what was begun of the others
+-- lines are begun, the first of which has this number: the output is empty, a prefix of the first line's output, or all of that and
+-- the output of the others as far as they are begun
 abbrev pub AreBegun : ScriptSites → World → ℕ → List (List ℕ) → List ℕ → Type 0
 AreBegun place w number [] text = text ≡ []
 AreBegun place w number (line ∷ lines) text =
@@ -145,7 +146,7 @@ AreBegun place w number (line ∷ lines) text =
     ⊎ ((given : Given) × LineGives place w number line given
     × (IsFront text given.text ⊎ ((more : List ℕ) × AreBegun place given.after (number + 1) lines more × (text ≡ given.text ++ more))))
 
--- what was done of lines, the first of which has this number: all that the first of them give, some or none; the others are left
+-- lines are done in part, the first of which has this number: the output is the whole output of the first of them, some or none
 pub record AreDone (place : ScriptSites) (w : World) (number : ℕ) (lines : List (List ℕ)) (text : List ℕ) : Type 0 where
   pub first : List (List ℕ)
   pub left : List (List ℕ)
@@ -159,26 +160,26 @@ pub record HasWritten (place : ScriptSites) (w : World) (script : List ℕ) (bef
   pub is_text : LinesGive place w 1 (lines_of script) text unknown
   pub taken : Appends before after text
 
--- a device has taken what was begun of a script's lines
+-- a device has taken the output of a script's lines as far as they were begun
 pub record HasBegunText (place : ScriptSites) (w : World) (script : List ℕ) (before after : Option (List ℕ)) : Type 0 where
   pub text : List ℕ
   pub is_begun : AreBegun place w 1 (lines_of script) text
   pub taken : Appends before after text
 
--- a device has taken what was done of a script's lines
+-- a device has taken the output of a script's lines as far as they were done
 pub record HasDoneLines (place : ScriptSites) (w : World) (script : List ℕ) (before after : Option (List ℕ)) : Type 0 where
   pub text : List ℕ
   pub is_done : AreDone place w 1 (lines_of script) text
   pub taken : Appends before after text
 
--- a script of at most 16,777,216 bytes was read, and its text was written, over sites that knew nothing
+-- a script of at most 16,777,216 bytes was read, and its text was written, over new sites
 pub record IsScriptRun (place : ScriptSites) (left_before left_after taken_before taken_after : Option (List ℕ)) (unknown : ℕ) : Type 0 where
   pub script : List ℕ
   pub short : length script ≤ 16777216
   pub read : Consumes left_before left_after script
   pub written : HasWritten place (new_world place.sites) script taken_before taken_after unknown
 
--- a script of at most 16,777,216 bytes was read, and its text was begun
+-- a script of at most 16,777,216 bytes was read, and a prefix of its text was written
 pub record IsRunInPart (place : ScriptSites) (left_before left_after taken_before taken_after : Option (List ℕ)) : Type 0 where
   pub script : List ℕ
   pub short : length script ≤ 16777216
@@ -192,14 +193,16 @@ pub record IsRunInWholeLines (place : ScriptSites) (left_before left_after taken
   pub read : Consumes left_before left_after script
   pub written : HasDoneLines place (new_world place.sites) script taken_before taken_after
 
--- lines have at most one text and one number of lines that aren't understood, and what was begun or done of them is a front of that text
+-- lines have at most one text and one number of lines that aren't understood, and the output of lines that were begun or done is a
+-- prefix of that text
 pub record HaveOneText (place : ScriptSites) (w : World) (number : ℕ) (lines : List (List ℕ)) : Type 0 where
   pub text : (text other : List ℕ) (unknown others : ℕ) → LinesGive place w number lines text unknown → LinesGive place w number lines other others → other ≡ text
   pub unknown : (text other : List ℕ) (unknown others : ℕ) → LinesGive place w number lines text unknown → LinesGive place w number lines other others → others ≡ unknown
   pub begun : (text front : List ℕ) (unknown : ℕ) → LinesGive place w number lines text unknown → AreBegun place w number lines front → IsFront front text
   pub done : (text front : List ℕ) (unknown : ℕ) → LinesGive place w number lines text unknown → AreDone place w number lines front → IsFront front text
 
--- lines have a text, and a number of lines that aren't understood, and what was begun or done of them is a front of that text
+-- lines have a text, and a number of lines that aren't understood, and the output of lines that were begun or done is a prefix of
+-- that text
 pub record HaveText (place : ScriptSites) (w : World) (number : ℕ) (lines : List (List ℕ)) : Type 0 where
   pub text : List ℕ
   pub unknown : ℕ

@@ -1,4 +1,4 @@
-//! The lines that a script writes of what comes of its lines (this project's own).
+//! The lines that a script writes for the outcomes of its lines.
 ghost use Rattle.std.specs.Prelude.{◌≡◌, codes, IfOk};
 ghost use Rattle.std.specs.Result.{result_ok};
 ghost use Rattle.scripts.specs.Answers.{answer_text, cut_fault_name, entry_text, frame_text};
@@ -60,7 +60,7 @@ fn entry_text(alloc: Global, entry: usize) -> Result<Vec<u8>, Memory>
     Ok(text)
 }
 
-// The name of why no frame was made.
+// The name of the fault of a cut or a whole.
 fn cut_fault_name(fault: CutFault) -> &'static [u8]
     ensures { result.now ≡ cut_fault_name fault }
 {
@@ -70,7 +70,7 @@ fn cut_fault_name(fault: CutFault) -> &'static [u8]
     }
 }
 
-// The name of why a frame wasn't taken.
+// The name of the fault of a take.
 fn take_fault_name(fault: TakeFault) -> &'static [u8]
     ensures { result.now ≡ take_fault_name fault }
 {
@@ -84,9 +84,8 @@ fn take_fault_name(fault: TakeFault) -> &'static [u8]
     }
 }
 
-/// The lines of what comes of an event: `done`, `entry` and its number, `nothing`, `taken`, `no entry`, or `refused` and the
-/// refusal's name; a report is written as its bytes. Nothing is written of a site that isn't there, nor of want of memory. The one
-/// fault is want of memory.
+/// The lines of an outcome: `done`, `entry` and its number, `nothing`, `taken`, `no entry`, or `refused` and the refusal's name; a
+/// report is written as its bytes. `NoSite` and `NoMemory` have no line. Fails only when out of memory.
 pub fn outcome_text(alloc: Global, outcome: Outcome) -> Result<Vec<u8>, Memory>
     ensures { IfOk result (λ text. text.items ≡ outcome_text outcome) }
 {
@@ -102,7 +101,7 @@ pub fn outcome_text(alloc: Global, outcome: Outcome) -> Result<Vec<u8>, Memory>
     }
 }
 
-/// What is written of the line of this number, where it isn't understood. The one fault is want of memory.
+/// The output of the line of this number, if it isn't understood. Fails only when out of memory.
 pub fn unknown_text(alloc: Global, number: u64) -> Result<Vec<u8>, Memory>
     ensures { IfOk result (λ text. text.items ≡ unknown_text number) }
 {
@@ -112,7 +111,7 @@ pub fn unknown_text(alloc: Global, number: u64) -> Result<Vec<u8>, Memory>
     Ok(text)
 }
 
-/// The line of a queue that isn't there. The one fault is want of memory.
+/// The line for a queue that isn't there. Fails only when out of memory.
 pub fn no_queue_text(alloc: Global) -> Result<Vec<u8>, Memory>
     ensures { IfOk result (λ text. text.items ≡ refused_text (refusal_name Refusal.NoSuchQueue)) }
 {
@@ -131,7 +130,7 @@ fn offer_line(alloc: Global, offer: &Offer) -> Result<Vec<u8>, Memory>
     Ok(text)
 }
 
-/// The line of what a queue offers, where there is such a queue. The one fault is want of memory.
+/// The line of a queue's offer, where there is such a queue. Fails only when out of memory.
 pub fn offer_text(
     alloc: Global,
     offered: Result<Option<Offer>, NoSuchQueue>,
@@ -145,7 +144,7 @@ pub fn offer_text(
     }
 }
 
-/// The line of the bytes of a frame, in lower-case hexadecimal. The one fault is want of memory.
+/// The line of a frame's bytes, in lower-case hexadecimal. Fails only when out of memory.
 pub fn frame_text(alloc: Global, bytes: &[u8]) -> Result<Vec<u8>, Memory>
     ensures { IfOk result (λ text. text.items ≡ frame_text bytes.now) }
 {
@@ -154,7 +153,7 @@ pub fn frame_text(alloc: Global, bytes: &[u8]) -> Result<Vec<u8>, Memory>
     Ok(text)
 }
 
-/// The line of an entry that isn't there. The one fault is want of memory.
+/// The line for an entry that isn't there. Fails only when out of memory.
 pub fn no_entry_text(alloc: Global) -> Result<Vec<u8>, Memory>
     ensures { IfOk result (λ text. text.items ≡ no_entry) }
 {

@@ -1,4 +1,4 @@
-//! A script is read whole before any of its lines is run.
+//! Reads a whole script, before any of its lines is run.
 ghost use Rattle.std.specs.Prelude.{◌≡◌, ◌≢◌, ◌≤◌, ◌<◌, ◌↔◌, ◌+◌, ◌⊎◌, ℕ, List, Option, Ok, true};
 ghost use Rattle.std.specs.Prelude.{false, vec_len, IfOk, IfErr, OnOk, IsErrOf};
 ghost use Rattle.std.specs.Io.KnownBytes.{Consumes};
@@ -8,17 +8,17 @@ use crate::script_fault::ScriptFault;
 use ami_text::Source;
 use std::alloc::Global;
 
-// How many bytes are read at a time.
+// The most bytes that one read returns.
 const PIECE: usize = 1024;
 
-// How often a script is read from before it counts as having no end.
+// The most reads of a script; after them it counts as having no end.
 const MOST_READS: u32 = 1_000_000;
 
-/// How many bytes a script may have.
+/// The most bytes that a script may have.
 pub const MOST_BYTES: usize = 16_777_216;
 
-// Reads once, and puts what came at the end. It answers whether anything did. Faults: `Read` where the reader fails, `TooLong`,
-// `Memory`.
+// Reads once, and puts the bytes at the end of `script`. Returns whether there were any. Errors: `Read` if the reader fails,
+// `TooLong`, `Memory`.
 fn read_piece<S: Source>(reader: &mut S, script: &mut Vec<u8>) -> Result<bool, ScriptFault>
     requires reader { S.failed reader.old ≡ false }
     requires short { vec_len script.old ≤ 16777216 }
@@ -57,8 +57,8 @@ fn read_piece<S: Source>(reader: &mut S, script: &mut Vec<u8>) -> Result<bool, S
     }
 }
 
-/// All bytes of the reader, from here to its end; it reads at most 1,000,000 times. Faults: `Read` where the reader fails, or
-/// doesn't end within 1,000,000 reads; `TooLong` where there are more than 16,777,216 bytes; `Memory`.
+/// Reads the reader to its end, at most 1,000,000 times. Errors: `Read` if the reader fails, or doesn't end within 1,000,000
+/// reads; `TooLong` if there are more than 16,777,216 bytes; `Memory`.
 pub fn read_script<S: Source>(alloc: Global, reader: &mut S) -> Result<Vec<u8>, ScriptFault>
     requires { S.failed reader.old ≡ false }
     ensures whole { IfOk result (λ script.

@@ -1,4 +1,4 @@
-//! What the definition of a script's text promises. The functions have no body but other laws: their contracts are the laws.
+//! Laws of a script's text. The functions have no body but other laws: their contracts are the laws.
 ghost use Rattle.std.specs.Prelude.{◌≤◌, ℕ, List};
 ghost use Rattle.dots.specs.declared.limits.TheConstants.{SITES};
 ghost use Rattle.replica.specs.Queues.{AreQueues};
@@ -19,8 +19,8 @@ use sites_world::laws::{
     operations_of_a_world_are_within_limits,
 };
 
-/// The lines of a script have at most one text, over each world of operations, and what was begun or done of them is a front of
-/// it (this project's own).
+/// The lines of a script have at most one text, over each world of operations, and the output of lines that were begun or done is a
+/// prefix of it.
 pub fn script_has_one_text()
     ensures { (place : ScriptSites) (w : World) (number : ℕ) (lines : List (List ℕ))
         → HaveOneText place w number lines }
@@ -30,9 +30,9 @@ pub fn script_has_one_text()
     each_frame_has_one_spelling();
 }
 
-/// Where the queues are those of a queue list (1 to 256 queue names, no two the same), each script has a text, over at most 64 sites
-/// that know nothing yet; and so have lines over each world of such sites that events lead to, where its operations are within their
-/// limits. And what was begun or done of a script is a front of its text (this project's own).
+/// If the queues are those of a queue list (1 to 256 queue names, no two the same), each script has a text, over at most 64 new
+/// sites. So have lines over each world of such sites that events lead to, if its operations are within their limits. The output of
+/// a script that was begun or done in part is a prefix of its text.
 pub fn each_script_has_a_text()
     ensures script { (place : ScriptSites) (script : List ℕ) → AreQueues place.names
         → place.sites ≤ SITES → HaveText place (new_world place.sites) 1 (lines_of script) }

@@ -1,7 +1,6 @@
 //! Scripts: their lines, run over all sites in one process (this project's own).
 //!
-//! [`run_script`] reads a script, runs its lines one after another over sites that know nothing yet, and writes what each
-//! gives.
+//! [`run_script`] reads a script, runs its lines in order over new sites, and writes the output of each.
 #![tactic(auto)]
 
 mod answers;

@@ -1,4 +1,4 @@
-//! A whole script is read, and then run (this project's own).
+//! Reads a whole script, and then runs it.
 ghost use Rattle.std.specs.Prelude.{◌≡◌, ◌≤◌, ◌+◌, ◌⊎◌, ◌↔◌, true, false, IfOk, OnOk, IsErrOf};
 ghost use Rattle.ami_text.specs.Devices.{HasEnded, HasGiven, HasGivenUpTo};
 ghost use Rattle.scripts.specs.Script.{IsRunInPart, IsRunInWholeLines, IsScriptRun};
@@ -12,14 +12,13 @@ use replica::QueueList;
 use script_lines::SiteCount;
 use std::alloc::Global;
 
-/// Runs a script over new sites, `sites` in number, each with these queues: reads the reader to its end in pieces of at
-/// most 1,024 bytes, at most 1,000,000 times, runs the lines in their order, and writes what each gives. It answers how many
-/// lines were not understood; each of them gives `line N: not understood`, N counting all lines from 1 (this project's own).
+/// Runs a script over `sites` new sites, each with these queues. Reads the reader to its end in pieces of at most 1,024 bytes,
+/// at most 1,000,000 times, runs the lines in order, and writes the output of each. Returns how many lines were not understood;
+/// each of them gives `line N: not understood`, where N counts all lines from 1.
 ///
-/// Faults: `Read` where the reader fails or gives no end within 1,000,000 reads, `TooLong` where the script has more
-/// than 16,777,216 bytes, `Write` where the writer fails or takes no bytes, `Memory` where memory is wanting. After the first
-/// two nothing was written, after `Write` what was begun of the script's text, and after `Memory` nothing, or all that its first
-/// lines give.
+/// Errors: `Read` if the reader fails or has no end within 1,000,000 reads, `TooLong` if the script has more than 16,777,216
+/// bytes, `Write` if the writer fails or takes no bytes, `Memory`. After the first two nothing was written, after `Write` a
+/// prefix of the script's text, and after `Memory` nothing, or the whole output of its first lines.
 pub fn run_script<S: Source, W: Sink>(
     alloc: Global,
     reader: &mut S,
@@ -34,15 +33,15 @@ pub fn run_script<S: Source, W: Sink>(
     ensures whole { IsErrOf result ScriptFault.Write
         → HasEnded (S.ended reader.new) (S.left reader.new) }
 
-    // It reads at most 1,000,000 times.
+    // The script is read at most 1,000,000 times.
     ensures reads { S.reads_left reader.old ≤ S.reads_left reader.new + 1000000 }
 
-    // The script's text was written; `unknown` tells how many of its lines were not understood.
+    // The script's text was written; `unknown` is the number of its lines that were not understood.
     ensures text { IfOk result (λ unknown. IsScriptRun (listed_place sites list.now)
         (S.left reader.old) (S.left reader.new)
         (W.taken writer.old) (W.taken writer.new) unknown) }
 
-    // Each of these faults stands only where its cause does; where a device has failed its own does.
+    // Each of these faults is returned only where its cause applies; if a device has failed, its fault is returned.
     ensures read { IsErrOf result ScriptFault.Read → (S.failed reader.new ≡ true)
         ⊎ ((S.ended reader.new ≡ false)
         × HasGiven (S.left reader.old) (S.left reader.new) 1000000) }
@@ -53,16 +52,16 @@ pub fn run_script<S: Source, W: Sink>(
         → HasGivenUpTo (S.left reader.old) (S.left reader.new) 16777216 }
     ensures write { IsErrOf result ScriptFault.Write ↔ (W.failed writer.new ≡ true) }
 
-    // After these two nothing was written.
+    // After `Read` and `TooLong` nothing was written.
     ensures unread { IsErrOf result ScriptFault.Read → W.taken writer.new ≡ W.taken writer.old }
     ensures too_long { IsErrOf result ScriptFault.TooLong
         → W.taken writer.new ≡ W.taken writer.old }
 
-    // After this one the text was begun.
+    // After `Write` a prefix of the text was written.
     ensures unwritten { IsErrOf result ScriptFault.Write → IsRunInPart (listed_place sites list.now)
         (S.left reader.old) (S.left reader.new) (W.taken writer.old) (W.taken writer.new) }
 
-    // After this one nothing was written; or the reader has ended and its first lines were done.
+    // After `Memory` nothing was written; or the reader has ended and the whole output of the first lines was written.
     ensures memory { IsErrOf result ScriptFault.Memory → (W.taken writer.new ≡ W.taken writer.old)
         ⊎ (HasEnded (S.ended reader.new) (S.left reader.new)
         × IsRunInWholeLines (listed_place sites list.now)

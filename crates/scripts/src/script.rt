@@ -1,4 +1,4 @@
-//! The sites of a script, and its lines, which are run over them one after another (this project's own).
+//! The sites of a script, and its lines, which run over them in order.
 ghost use Rattle.std.specs.Prelude.{◌≡◌, ◌≤◌, ◌⊎◌, ◌↔◌, true, false, ℕ, List, Some, length};
 ghost use Rattle.std.specs.Prelude.{IfErr, IfOk, IsErrOf, OnOk, slice_get};
 ghost use Rattle.delta.specs.Frames.{IsInRanges};
@@ -43,7 +43,7 @@ pub struct Script {
     world: World,
 }
 
-/// What a line gives: its text, and whether it was understood.
+/// The output of a line: its text, and whether the line was understood.
 #[derive(Drop)]
 pub struct Output {
     text: Vec<u8>,
@@ -69,7 +69,7 @@ fn count_of(calls: Calls, queue: QueueName) -> Ask
     })
 }
 
-// What is written of an offer of a site's replica.
+// The output of an offer of a site's replica.
 fn offer_of(alloc: Global, replica: &Replica, parts: &[u8]) -> Result<Vec<u8>, Memory>
     ensures { IfOk result (λ text. (s : SiteKnowledge) → StandsFor replica.now s → text.items
         ≡ text_of_offer replica.now.names (Some s) (queue_in parts.now) (tried_in parts.now)) }
@@ -84,7 +84,7 @@ fn offer_of(alloc: Global, replica: &Replica, parts: &[u8]) -> Result<Vec<u8>, M
     }
 }
 
-// The reply to a message that waits for what comes of its ask; none where there is no such site.
+// The reply to a message that waits for the outcome of its ask; `None` if there is no such site.
 fn reply(alloc: Global, pending: Pending, outcome: Outcome) -> Result<Vec<u8>, Memory>
     ensures { IfOk result (λ text. text.items ≡ waited_reply pending outcome) }
 {
@@ -94,7 +94,7 @@ fn reply(alloc: Global, pending: Pending, outcome: Outcome) -> Result<Vec<u8>, M
     }
 }
 
-// What is written of a line that isn't understood.
+// The output of a line that isn't understood.
 fn not_understood(alloc: Global, number: u64) -> Result<Output, Memory>
     ensures { IfOk result (λ output. IsUnknown number output) }
 {
@@ -106,7 +106,7 @@ fn not_understood(alloc: Global, number: u64) -> Result<Output, Memory>
 }
 
 impl Script {
-    // A script whose sites know nothing yet. The one fault is want of memory.
+    // A script over new sites. Fails only when out of memory.
     pub(crate) fn new(alloc: Global, sites: SiteCount, list: &QueueList) -> Result<Script, Memory>
         ensures place { IfOk result (λ script. place_of script ≡ listed_place sites list.now) }
         ensures stands { IfOk result (λ script. StandsAt script.world (new_world sites)) }
@@ -121,7 +121,7 @@ impl Script {
         }
     }
 
-    // Lets an event happen. Want of memory is no outcome, but the one fault.
+    // Runs an event. Out of memory is no outcome, but the only fault.
     fn happen(&mut self, event: Event) -> Result<Outcome, Memory>
         ensures ok { IfOk result (λ outcome. (w : world_of_operations)
             → StandsAt self.old.world w
@@ -135,7 +135,7 @@ impl Script {
         }
     }
 
-    // What is written of an event. The one fault is want of memory.
+    // The output of an event. Fails only when out of memory.
     fn run_event(&mut self, event: Event) -> Result<Vec<u8>, Memory>
         ensures ok { IfOk result (λ text. (w : world_of_operations) → StandsAt self.old.world w
             → StandsForGiven (given_by_event (place_of self.old) w event) self.new.world text.items) }
@@ -145,7 +145,7 @@ impl Script {
         outcome_text(self.alloc, outcome)
     }
 
-    // What is written of a call that is to be counted. The one fault is want of memory.
+    // The output of a call that is to be counted. Fails only when out of memory.
     fn run_count(&mut self, site: SiteId, calls: Calls, queue: &[u8]) -> Result<Vec<u8>, Memory>
         ensures ok { IfOk result (λ text. (w : world_of_operations) → StandsAt self.old.world w
             → StandsForGiven (given_by_count (place_of self.old) w site calls (name_of queue.now))
@@ -158,7 +158,7 @@ impl Script {
         }
     }
 
-    // What is written of an offer. The one fault is want of memory.
+    // The output of an offer. Fails only when out of memory.
     fn run_offer(&self, site: SiteId, parts: &[u8]) -> Result<Vec<u8>, Memory>
         ensures { IfOk result (λ text. (w : world_of_operations) → StandsAt self.now.world w
             → text.items ≡ text_of_offer self.now.world.names (slice_get w.sites site)
@@ -170,7 +170,7 @@ impl Script {
         }
     }
 
-    // What is written of what a session does. The one fault is want of memory.
+    // The output of a session's reaction. Fails only when out of memory.
     fn run_act(&mut self, site: SiteId, act: Act) -> Result<Vec<u8>, Memory>
         ensures ok { IfOk result (λ text. (w : world_of_operations) → StandsAt self.old.world w
             → StandsForGiven (given_by_reaction (place_of self.old) w site (reaction_of act))
@@ -186,7 +186,7 @@ impl Script {
         }
     }
 
-    // What a site replies to a message, in a trusted session of its own. The one fault is want of memory.
+    // A site's reply to a message, in a trusted session of its own. Fails only when out of memory.
     fn run_message(&mut self, site: SiteId, message: &Message) -> Result<Vec<u8>, Memory>
         ensures ok { IfOk result (λ text. (w : world_of_operations) → StandsAt self.old.world w
             → StandsForGiven (given_by_message (place_of self.old) w site message.now)
@@ -198,7 +198,7 @@ impl Script {
         self.run_act(site, act)
     }
 
-    // Runs the line of this number that has a message of these fields for a site, if they are one.
+    // Runs the line of this number with a message for a site, if its fields are exactly one message.
     fn run_fields(&mut self, site: SiteId, fields: &[u8], number: u64) -> Result<Output, Memory>
         ensures ok { IfOk result (λ output. (w : world_of_operations)
             → StandsAt self.old.world w → IsOutput (place_of self.old) w number
@@ -215,7 +215,7 @@ impl Script {
         })
     }
 
-    // What is written of an entry that is shown. The one fault is want of memory.
+    // The output for an entry that is shown. Fails only when out of memory.
     fn show(&self, entry: usize) -> Result<Vec<u8>, Memory>
         ensures { IfOk result (λ text. (w : world_of_operations) → StandsAt self.now.world w
             → IsEntryShown entry (slice_get w.pool entry) text.items) }
@@ -226,7 +226,7 @@ impl Script {
         }
     }
 
-    // Runs the line of this number. The one fault is want of memory.
+    // Runs the line of this number. Fails only when out of memory.
     fn run_line(&mut self, line: &[u8], number: u64) -> Result<Output, Memory>
         ensures ok { IfOk result (λ output. (w : world_of_operations)
             → StandsAt self.old.world w → IsOutput (place_of self.old) w number
@@ -250,7 +250,7 @@ impl Script {
         })
     }
 
-    // Runs the line of this number and writes what it gives. It answers whether the line was understood.
+    // Runs the line of this number and writes its output. Returns whether the line was understood.
     fn give_line<W: Sink>(
         &mut self,
         writer: &mut W,
@@ -277,8 +277,8 @@ impl Script {
         Ok(output.understood)
     }
 
-    // Runs the lines of a script and writes what each gives. It answers how many were not understood. A line for which memory is
-    // wanting writes nothing.
+    // Runs the lines of a script and writes the output of each. Returns how many were not understood. A line that runs out of
+    // memory writes nothing.
     pub(crate) fn run_lines<W: Sink>(
         &mut self,
         writer: &mut W,

@@ -1,20 +1,20 @@
 use dots::Memory as NoMemory;
 use thiserror::Error;
 
-/// Why a script was not run to its end (this project's own).
+/// Why a script was not run to its end.
 #[derive(Clone, Copy, Debug, PartialEq, Eq, Error)]
 pub enum ScriptFault {
-    /// The reader failed, or gave no end within 1,000,000 reads. Nothing was written.
+    /// The reader failed, or had no end within 1,000,000 reads. Nothing was written.
     #[error("read failed")]
     Read,
     /// The script has more than 16,777,216 bytes. Nothing was written.
     #[error("script too long")]
     TooLong,
-    /// The writer failed, or took no bytes. The output of the first lines was written, and a front of the
-    /// next one's.
+    /// The writer failed, or took no bytes. The output of the first lines was written, and a prefix of
+    /// the next line's output.
     #[error("write failed")]
     Write,
-    /// Memory was wanting. Nothing was written, or the whole output of the first lines.
+    /// Out of memory. Nothing was written, or the whole output of the first lines.
     #[error("out of memory")]
     Memory,
 }

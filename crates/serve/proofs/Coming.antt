@@ -1,4 +1,4 @@
--- What comes of a stream, read by read.
+-- The messages and faults of a stream, read by read.
 use Rattle.std.proofs.Common.{◌≡◌, ◌≤◌, ◌+◌, ◌⊎◌, ⊎_elim, inl, inr, ℕ, Bool, true, Result, Ok, Err, Some, None, List, [], ◌++◌, sym, ap, subst, arith, append_assoc, append-nil, length, length-append, Option}
 use Rattle.ami_text.proofs.Taking.{given_grows, given_none}
 use Rattle.ami_text.specs.Lines.{lines_text}
@@ -35,7 +35,7 @@ pub come_so : (given after : Option (List ℕ)) (held : List ℕ) (reads left : 
     → HasCome given after held reads left H → HasCome given after held reads left K
 come_so given after held reads left H K so come = record { bytes = come.bytes; given = come.given; many = come.many; few = come.few; holds = so (held ++ come.bytes) come.holds }
 
--- and then more has
+-- a stream from which a piece has come, and then more
 pub come_more : (given now after : Option (List ℕ)) (held rest : List ℕ) (reads left last : ℕ) (K : List ℕ → Type 0) → MoreStays
     → HasCome given now held reads left (λ stream. Gives stream [] rest) → HasCome now after rest left last K
     → HasCome given after held reads last (λ stream. (piece : List ℕ) × Gives stream [] (rest ++ piece) × K (rest ++ piece))
@@ -112,12 +112,12 @@ broken_came LineTooLong given now after held rest more reads left last stays is_
 broken_came TooManyFields given now after held rest more reads left last stays is_rest come piece = absurd piece.holds
 broken_came DeskDown given now after held rest more reads left last stays is_rest come piece = absurd piece.holds
 
--- a read's result, told
+-- the stream that a read's result gives
 pub held_so : (now after : Option (List ℕ)) (rest more : List ℕ) (left last : ℕ) (result told : Result Bool ServeFault) → result ≡ told
     → HasCome now after rest left last (IsHeld result rest more) → HasCome now after rest left last (IsHeld told rest more)
 held_so now after rest more left last result told is come = subst (λ r. HasCome now after rest left last (IsHeld r rest more)) is come
 
--- what came, told
+-- the bytes that a read's result gives
 pub next_so : (now after : Option (List ℕ)) (held rest : List ℕ) (reads left : ℕ) (result told : Result (Option (List NameAndValue)) ServeFault) → result ≡ told
     → HasCome now after held reads left (StandsFirst result held rest) → HasCome now after held reads left (StandsFirst told held rest)
 next_so now after held rest reads left result told is come = subst (λ r. HasCome now after held reads left (StandsFirst r held rest)) is come

@@ -87,7 +87,7 @@ piece_stays messages message bytes x = record {
 greeted : {D : Type 0} (Answers : D → Ask → Answer → D → Type 0) (s : SessionState) (d : D) → HasText Answers s d d [] (greeting s)
 greeted Answers s d = record { answers = []; run = refl; is = sym (append-nil (greeting s)) }
 
--- it begins with the greeting
+-- the session's text begins with the greeting
 pub going_start : {D : Type 0} (Answers : D → Ask → Answer → D → Type 0) (s : SessionState) (d : D) (given old new : Option (List ℕ)) (held : List ℕ) (reads : ℕ) → ((bytes : List ℕ) → Gives bytes [] bytes)
     → held ≡ [] → reads ≡ 1000000 → Appends old new (greeting s) → HasCarried given given old new (Going Answers s d d s held reads)
 going_start Answers s d given old new held reads none is_held is_reads taken = record {
@@ -107,7 +107,7 @@ going_start Answers s d given old new held reads none is_held is_reads taken = r
   };
 }
 
--- which may break off
+-- the greeting may break off
 greeting_begun : {D : Type 0} (Answers : D → Ask → Answer → D → Type 0) (s : SessionState) (d : D) (given old new : Option (List ℕ)) → ((bytes : List ℕ) → Gives bytes [] bytes)
     → HasTaken old new (greeting s) → HasCarried given given old new (IsSessionBegun Answers s d d)
 greeting_begun Answers s d given old new none taken = record {
@@ -155,7 +155,7 @@ reads_on given now after old new held reads left H K c come = record {
   holds = record { first = c.bytes; piece = come.bytes; is = refl; before = c.holds; more = come.holds; many = come.many; few = come.few };
 }
 
--- what came of a stream in which no message stands was wanted
+-- a piece was needed after bytes in which there is no message
 rest_wanted : (held piece rest : List ℕ) → Reads (held ++ piece) [] (Rest rest) → IsWanted held (held ++ piece)
 rest_wanted held piece rest reads = inr (record { before = piece; piece = []; is = sym (append-nil (held ++ piece)); short = omega arith; rest = rest; reads = reads })
 
@@ -327,7 +327,7 @@ said Answers s now d mid e given after old before new rest message left c has =
       };
     }
 
--- it is answered, and the session goes on
+-- a message is answered, and the session goes on
 pub going_on : {D : Type 0} (Answers : D → Ask → Answer → D → Type 0) (s now next : SessionState) (d mid e : D) (given before after old written new : Option (List ℕ)) (held rest : List ℕ) (message : Fields)
     (reads left : ℕ) → PiecesJoin → MoreStays → LaterFollows
     → HasCarried given before old written (Going Answers s d mid now held reads) → HasCome before after held reads left (StandsFirst (Ok (Some message)) held rest)
@@ -347,7 +347,7 @@ going_on Answers s now next d mid e given before after old written new held rest
     })
     (said Answers s now d mid e given after old written new rest message left (message_came Answers s now d mid given before after old written held rest message reads left join stays later c come) has)
 
--- or ends
+-- a message is answered, and the session ends
 pub served_by_end : {D : Type 0} (Answers : D → Ask → Answer → D → Type 0) (s now : SessionState) (d mid e : D) (given before after old written new : Option (List ℕ)) (held rest : List ℕ) (message : Fields)
     (reads left : ℕ) (ended : Bool) → PiecesJoin → MoreStays → LaterFollows
     → HasCarried given before old written (Going Answers s d mid now held reads) → HasCome before after held reads left (StandsFirst (Ok (Some message)) held rest)
@@ -371,7 +371,7 @@ served_by_end Answers s now d mid e given before after old written new held rest
     })
     (said Answers s now d mid e given after old written new rest message left (message_came Answers s now d mid given before after old written held rest message reads left join stays later c come) has)
 
--- a front of its text was written
+-- a prefix of its text was written
 begun : {D : Type 0} (Answers : D → Ask → Answer → D → Type 0) (s now : SessionState) (d mid e : D) (given after old before new : Option (List ℕ)) (rest : List ℕ) (message : Fields) (left : ℕ)
     → HasCarried given after old before (MessageCame Answers s d mid now message rest left) → HasWrittenFront Answers (reaction now message) mid e before new
     → HasCarried given after old new (IsSessionBegun Answers s d e)

@@ -4,7 +4,7 @@ use Rattle.std.specs.Io.KnownBytes.{Appends}
 use Rattle.ami_text.proofs.Taking.{taken_grows}
 use Rattle.ami_text.specs.Devices.{HasTaken}
 
--- a front of what comes first
+-- a prefix of the first part is one of the whole
 pub begun_first : (before after : Option (List ℕ)) (first then : List ℕ) → HasTaken before after first → HasTaken before after (first ++ then)
 begun_first before after first then begun = record {
   front = begun.front;
@@ -13,7 +13,7 @@ begun_first before after first then begun = record {
   taken = begun.taken;
 }
 
--- a front of what comes behind it
+-- the first part with a prefix of the second is a prefix of the whole
 pub begun_then : (before now after : Option (List ℕ)) (first then : List ℕ) → Appends before now first → HasTaken now after then
     → HasTaken before after (first ++ then)
 begun_then before now after first then taken begun = record {

@@ -9,7 +9,7 @@ use Rattle.serve.specs.Desks.{DeskRun}
 use Rattle.serve.specs.Sessions.{HasText}
 use Rattle.serve.specs.Steps.{HasReacted}
 
--- a desk answers asks, and then others
+-- a desk that answers asks, and then others, answers both lists in a row
 pub run_then : {D : Type 0} (Answers : D → Ask → Answer → D → Type 0) (asked : List Ask) (answers : List Answer) (more : List Ask) (others : List Answer) (d mid e : D)
     → DeskRun Answers d asked answers mid → DeskRun Answers mid more others e → DeskRun Answers d (asked ++ more) (answers ++ others) e
 run_then Answers [] [] more others d mid e run then = subst (λ x. DeskRun Answers x more others e) (sym run) then
@@ -51,7 +51,7 @@ asks_one (n ∷ ms) s m going =
     asks_by (reaction s n) (is_over (after s n) ms) (asks (after s n) ms) (asks (after s n) (ms ++ m ∷ [])) (asks_upon (reaction (after_all (after s n) ms) m) [])
     (asks_one ms (after s n) m) going
 
--- and its reply behind the replies, where the desk has answered what was asked
+-- a further message's reply follows the replies, if the desk has answered all asks
 reply_alone : (r : Reaction) (s : SessionState) (answers : List Answer) → text_upon r (replies s []) answers ≡ text_upon r (λ _. []) answers
 reply_alone (Replies bytes) s answers = refl
 reply_alone (Ends bytes) s answers = refl

@@ -16,13 +16,13 @@ use Rattle.serve.proofs.TextSteps.{run_then}
 pub no_work : {D : Type 0} (Answers : D → Ask → Answer → D → Type 0) (Refuses : D → Ask → D → Type 0) (d : D) → HasWorked Answers Refuses d d
 no_work Answers Refuses d = record { asks = []; answers = []; left = d; run = refl; last = inl refl }
 
--- it has answered what was asked so far
+-- the desk has answered the asks so far
 pub work_so_far : {D : Type 0} (Answers : D → Ask → Answer → D → Type 0) (Refuses : D → Ask → D → Type 0) (s now : SessionState) (d e : D) (given before old new : Option (List ℕ))
     (held : List ℕ) (reads : ℕ) → HasCarried given before old new (Going Answers s d e now held reads) → HasWorked Answers Refuses d e
 work_so_far Answers Refuses s now d e given before old new held reads c =
     record { asks = asks s c.holds.messages; answers = c.holds.has_text.answers; left = e; run = c.holds.has_text.run; last = inl refl }
 
--- and then what one message more asks
+-- the desk has answered the asks so far, and then that of one more message
 work_then : {D : Type 0} (Answers : D → Ask → Answer → D → Type 0) (Refuses : D → Ask → D → Type 0) (s now : SessionState) (d mid e : D) (given before old new : Option (List ℕ))
     (held : List ℕ) (reads : ℕ) (more : List Ask) (others : List Answer) → HasCarried given before old new (Going Answers s d mid now held reads)
     → DeskRun Answers mid more others e → HasWorked Answers Refuses d e
@@ -70,7 +70,7 @@ run_keeps Answers Keeps same then each (ask ∷ asked) [] d e run = absurd run
 run_keeps Answers Keeps same then each (ask ∷ asked) (answer ∷ answers) d e run =
     then d run.0 e (each d run.0 ask answer run.1) (run_keeps Answers Keeps same then each asked answers run.0 e run.2)
 
--- and of all that a desk does
+-- a relation that is a preorder and that each answer keeps holds of all that a desk does
 pub work_keeps : {D : Type 0} (Answers : D → Ask → Answer → D → Type 0) (Refuses : D → Ask → D → Type 0) (Keeps : D → D → Type 0) → ((d : D) → Keeps d d)
     → ((d mid e : D) → Keeps d mid → Keeps mid e → Keeps d e) → EachKeeps Answers Refuses Keeps → (d e : D) → HasWorked Answers Refuses d e → Keeps d e
 work_keeps Answers Refuses Keeps same then each d e worked =

@@ -1,4 +1,4 @@
--- What a replica answers, as a desk.
+-- The answers of a replica, as a desk.
 use Rattle.std.specs.Prelude.{◌≡◌}
 use Rattle.replica.specs.Site.{SiteState}
 use Rattle.replica.specs.Standing.{StandsFor}

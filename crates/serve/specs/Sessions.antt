@@ -1,4 +1,4 @@
--- What a session that is served over devices and a desk has read, asked and written (this project's own).
+-- What a session that is served over devices and a desk has read, asked and written.
 use Rattle.std.specs.Prelude.{ℕ, ◌≡◌, ◌≤◌, ◌⊎◌, Bool, true, false, List, [], ◌∷◌, ◌++◌, length, Option}
 use Rattle.std.specs.Io.KnownBytes.{Appends, Consumes}
 use Rattle.ami_text.specs.Devices.{HasEnded}
@@ -13,7 +13,7 @@ use Rattle.serve.specs.declared.serve_fault.ServeFault.{ServeFault}
 use Rattle.serve.specs.declared.serve_fault.ServeFault.TheVariants.{Read, Write, LineTooLong, TooManyFields, DeskDown, Turns, Memory}
 use Rattle.serve.specs.Desks.{DeskRun}
 
--- a source has given bytes and a sink has taken a text, of which this holds; the source tells what it has left, and the sink what it has taken
+-- a source has given bytes and a sink has taken a text, and the property holds of both
 pub record HasCarried (left_old left_new taken_old taken_new : Option (List ℕ)) (Holds : List ℕ → List ℕ → Type 0) : Type 0 where
   pub bytes : List ℕ
   pub text : List ℕ
@@ -21,14 +21,14 @@ pub record HasCarried (left_old left_new taken_old taken_new : Option (List ℕ)
   pub taken : Appends taken_old taken_new text
   pub holds : Holds bytes text
 
--- the session's text upon these messages, where a desk answers what they ask and comes from one state to another
+-- the session's text for these messages, where a desk answers their asks, which leads it from one state to another
 pub record HasText {D : Type 0} (Answers : D → Ask → Answer → D → Type 0) (s : SessionState) (d e : D) (messages : List Fields) (text : List ℕ) : Type 0 where
   pub answers : List Answer
   pub run : DeskRun Answers d (asks s messages) answers e
   pub is : text ≡ session_text s messages answers
 
--- the bytes end in a piece of at most 1,024 bytes, and those before it have the first of these messages and no others: once these were
--- answered no further piece was read
+-- the bytes end in a piece of at most 1,024 bytes, and those before it have the first of these messages and no others: after the
+-- replies to these no further piece was read
 pub record EndsInPiece (messages : List Fields) (bytes : List ℕ) : Type 0 where
   pub before : List ℕ
   pub piece : List ℕ
@@ -40,7 +40,7 @@ pub record EndsInPiece (messages : List Fields) (bytes : List ℕ) : Type 0 wher
   pub rest : List ℕ
   pub reads : Reads before earlier (Rest rest)
 
--- the last of the messages ends the session, none before it does, and it came with the last piece
+-- the last of the messages ends the session, none before it does, and the last piece completed it
 pub record IsEndedByLast (s : SessionState) (messages : List Fields) (bytes : List ℕ) : Type 0 where
   pub before : List Fields
   pub last : Fields
@@ -49,7 +49,8 @@ pub record IsEndedByLast (s : SessionState) (messages : List Fields) (bytes : Li
   pub over : is_over s messages ≡ true
   pub in_piece : EndsInPiece before bytes
 
--- a session was served: the text is that of the messages of the bytes, up to a Logoff that came with the last piece, or to the end of a reader that has ended with nothing left
+-- a session was served: the text is that of the messages of the bytes, up to a Logoff that the last piece completed, or to the end
+-- of a reader that has ended with nothing left
 pub record IsServed {D : Type 0} (Answers : D → Ask → Answer → D → Type 0) (s : SessionState) (d e : D) (ended : Bool) (left : Option (List ℕ)) (bytes text : List ℕ) : Type 0 where
   pub messages : List Fields
   pub rest : List ℕ
@@ -57,8 +58,8 @@ pub record IsServed {D : Type 0} (Answers : D → Ask → Answer → D → Type 
   pub has_text : HasText Answers s d e messages text
   pub at_end : IsEndedByLast s messages bytes ⊎ (IsRest rest × HasEnded ended left)
 
--- all messages of the bytes are answered, none of them has ended the session, nothing but this ending stands behind them, and no more was
--- read than shows it
+-- all messages of the bytes have their replies, none of them has ended the session, after them the bytes have only this ending, and
+-- no more was read than shows it
 pub record AreAnswered {D : Type 0} (Answers : D → Ask → Answer → D → Type 0) (s : SessionState) (d e : D) (ending : Ending) (bytes text : List ℕ) : Type 0 where
   pub messages : List Fields
   pub reads : Reads bytes messages ending
@@ -66,8 +67,8 @@ pub record AreAnswered {D : Type 0} (Answers : D → Ask → Answer → D → Ty
   pub has_text : HasText Answers s d e messages text
   pub in_piece : EndsInPiece messages bytes
 
--- all messages before the last are answered, none of them has ended the session, no more was read than the last needs, and of what is
--- written upon it there is a part
+-- all messages before the last have their replies, none of them has ended the session, no more was read than the last needs, and a
+-- prefix of its reply was written
 pub record IsAtLast {D : Type 0} (Answers : D → Ask → Answer → D → Type 0) (s : SessionState) (d : D) (messages : List Fields) (bytes text : List ℕ) : Type 0 where
   pub before : List Fields
   pub last : Fields
@@ -80,8 +81,8 @@ pub record IsAtLast {D : Type 0} (Answers : D → Ask → Answer → D → Type 
   pub has_text : HasText Answers s d left before written
   pub is : text ≡ written ++ part
 
--- the text is a front of that of the messages that were answered; it ends in the greeting, before which nothing was read, or in what is
--- written upon the last message
+-- the text is a prefix of that for the messages with replies; it ends in the greeting, before which nothing was read, or in the
+-- reply to the last message
 pub record IsSessionBegun {D : Type 0} (Answers : D → Ask → Answer → D → Type 0) (s : SessionState) (d e : D) (bytes text : List ℕ) : Type 0 where
   pub messages : List Fields
   pub rest : List ℕ
@@ -90,7 +91,7 @@ pub record IsSessionBegun {D : Type 0} (Answers : D → Ask → Answer → D →
   pub has_text : HasText Answers s d e messages (text ++ more)
   pub ends : ((messages ≡ []) × (bytes ≡ [])) ⊎ IsAtLast Answers s d messages bytes text
 
--- the desk has answered what the message behind these asks
+-- the desk has answered the ask of the message after these asks
 pub record IsUnreplied {D : Type 0} (Answers : D → Ask → Answer → D → Type 0) (s : SessionState) (d e : D) (messages : List Fields) (bytes : List ℕ) : Type 0 where
   pub last : Fields
   pub rest : List ℕ
@@ -101,8 +102,8 @@ pub record IsUnreplied {D : Type 0} (Answers : D → Ask → Answer → D → Ty
   pub answer : Answer
   pub answered : Answers d ask answer e
 
--- all messages before the last piece are answered, and some of it may be; none of them has ended the session, and nothing is written
--- upon another one, but the desk may have answered what it asks
+-- all messages before the last piece have their replies, and some of the piece may; none of them has ended the session, and nothing
+-- is written for a further one, but the desk may have answered its ask
 pub record IsUnfinished {D : Type 0} (Answers : D → Ask → Answer → D → Type 0) (s : SessionState) (d e : D) (bytes text : List ℕ) : Type 0 where
   pub messages : List Fields
   pub rest : List ℕ
@@ -113,8 +114,8 @@ pub record IsUnfinished {D : Type 0} (Answers : D → Ask → Answer → D → T
   pub has_text : HasText Answers s d left messages text
   pub desk : (e ≡ left) ⊎ IsUnreplied Answers s left e messages bytes
 
--- all messages before the last are answered, none of them has ended the session, no more was read than the last needs, and what it asks
--- the desk refused in the state in which they left it
+-- all messages before the last have their replies, none of them has ended the session, no more was read than the last needs, and
+-- the desk refused its ask in the state after the others
 pub record IsRefused {D : Type 0} (Answers : D → Ask → Answer → D → Type 0) (Refuses : D → Ask → D → Type 0) (s : SessionState) (d e : D) (bytes text : List ℕ) : Type 0 where
   pub messages : List Fields
   pub last : Fields
@@ -129,7 +130,7 @@ pub record IsRefused {D : Type 0} (Answers : D → Ask → Answer → D → Type
   pub asked : reaction (after_all s messages) last ≡ Asks ask waiting
   pub refused : Refuses left ask e
 
--- what each fault leaves
+-- what holds of the text and the desk after each fault
 abbrev pub IsLeftBy : {D : Type 0} → (D → Ask → Answer → D → Type 0) → (D → Ask → D → Type 0) → SessionState → D → D → ServeFault → List ℕ → List ℕ → Type 0
 IsLeftBy Answers Refuses s d e Read bytes text = (rest : List ℕ) × AreAnswered Answers s d e (Rest rest) bytes text
 IsLeftBy Answers Refuses s d e Turns bytes text = (rest : List ℕ) × AreAnswered Answers s d e (Rest rest) bytes text

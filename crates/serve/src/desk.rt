@@ -8,22 +8,23 @@ use thiserror::Error;
 #[error("desk down")]
 pub struct DeskDown;
 
-/// What answers the asks of sessions: a site, or what stands before one. `R` is the handle that its
-/// calls take, where they wait for somebody; what is served over a desk says nothing of it.
+/// A desk answers the asks of sessions: it is a site, or stands in front of one. `R` is the handle
+/// that its calls take, where they wait for another thread; contracts of what is served over a desk
+/// say nothing of it.
 pub trait Desk<R> {
     ghost use Rattle.status_report.specs.declared.asks.Answer.{Answer};
     ghost use Rattle.status_report.specs.declared.asks.Ask.{Ask};
 
-    /// What an answer does: it leads from the desk's state before, upon an ask, with this answer,
-    /// to the state after.
+    /// The effect of an answer: from the desk's state before, an ask and this answer lead to the
+    /// state after.
     ghost answers: { Self → Ask → Answer → Self → Type 0 };
 
-    /// What an ask that isn't answered does: it leads from the state before to the state after.
+    /// The effect of an ask without an answer: from the state before it leads to the state after.
     ghost refuses: { Self → Ask → Self → Type 0 };
 
-    /// The desk's answer.
+    /// Answers an ask.
     ///
-    /// `DeskDown`: it gives none.
+    /// `DeskDown`: the desk gives no answer.
     fn ask(&mut self, rt: &R, ask: Ask) -> Result<Answer, DeskDown>
         ensures answered { IfOk result (λ answer. answers self.old ask answer self.new) }
         ensures refused { OnErr result (refuses self.old ask self.new) };

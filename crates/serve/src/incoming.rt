@@ -1,4 +1,4 @@
-//! The messages that come in, read as they are needed.
+//! Reads a client's messages as they are needed.
 ghost use Rattle.std.specs.Prelude.{◌≡◌, ◌≤◌, ◌<◌, ◌+◌, [], None, Ok, true, false, IfOk, IfSome};
 ghost use Rattle.ami_text.specs.Devices.{HasEnded};
 ghost use Rattle.serve.specs.Steps.{HasCome, HasRead, IsHeld, MayRead, StandsFirst, bytes_ahead};
@@ -8,13 +8,13 @@ use ami_text::laws::messages_so_far;
 use ami_text::{Feed, Message, Source};
 use std::alloc::Global;
 
-// How many bytes are read at a time.
+// The most bytes that one read returns.
 const PIECE: usize = 1024;
 
-// How often a session reads before it counts as having no end.
+// The most reads of a session; after them it counts as having no end.
 const MOST_READS: u32 = 1_000_000;
 
-/// What has come of a client's stream and belongs to no message yet, and how many reads are left.
+/// The bytes of a client's stream that belong to no message yet, and the number of reads left.
 #[derive(Drop)]
 pub struct Incoming {
     pub feed: Feed,
@@ -22,7 +22,7 @@ pub struct Incoming {
 }
 
 impl Incoming {
-    /// Nothing has come.
+    /// A stream of which nothing was read.
     pub fn new(alloc: Global) -> Incoming
         ensures feed { result.feed ≡ record { held = []; fault = None } }
         ensures reads { result.reads ≡ 1000000 }
@@ -34,7 +34,7 @@ impl Incoming {
     }
 }
 
-// Reads once, and holds what came. It tells whether anything did. Faults: `Turns` where no read is
+// Reads once, and holds the bytes. Returns whether there were any. Errors: `Turns` if no read is
 // left, `Read`, `Memory`.
 fn read_piece<S: Source>(reader: &mut S, incoming: &mut Incoming) -> Result<bool, ServeFault>
     requires reading { MayRead (S.failed reader.old) (S.ended reader.old) incoming.old }
@@ -69,10 +69,10 @@ fn read_piece<S: Source>(reader: &mut S, incoming: &mut Incoming) -> Result<bool
     }
 }
 
-/// The client's next message, read as far as needed; `None` at the end of what it sends.
+/// The client's next message, read as far as needed; `None` at the end of the client's stream.
 ///
-/// Faults: `LineTooLong` and `TooManyFields` where the stream has them next; `Turns` where no read
-/// is left, and `Read` where one fails; `Memory`.
+/// Errors: `LineTooLong` and `TooManyFields` if the stream has them next; `Turns` if no read is
+/// left, and `Read` if one fails; `Memory`.
 pub fn next_message<S: Source>(
     reader: &mut S,
     incoming: &mut Incoming,

@@ -1,12 +1,12 @@
-//! What a desk keeps in a session. The function has no body: its contract is the law.
+//! Invariants of a desk over a session. The function has no body: its contract is the law.
 ghost use Rattle.std.specs.Prelude.{◌≡◌, ◌≤◌, ℕ, Bool, true};
 ghost use Rattle.serve.specs.Desks.{EachKeeps, HasWorked, IsPreorder};
 
 use crate::Desk;
 
-/// What each answer and each refusal of a desk keeps, a whole session keeps, however it ends
-/// (`serve`: desk): what is read of its state stays, a number doesn't fall, and any test of two
-/// states that is a preorder passes (this project's own).
+/// If each answer and each refusal of a desk keeps a property of its states, a whole session keeps
+/// it, however it ends (`serve`: desk). The property is one of three: a value read from the state
+/// stays, a number doesn't fall, or a preorder holds from the state before to the state after.
 pub fn a_session_keeps_what_each_answer_keeps<R, D: Desk<R>, X>()
     ensures same { (shows : D → X)
         → EachKeeps D.answers D.refuses (λ d e. shows e ≡ shows d)

@@ -1,7 +1,7 @@
 //! Manager sessions from their first byte to the last, over any reader, writer and desk.
 //!
-//! A [`Desk`] is what answers asks. [`serve`] reads a client's messages, asks the desk what they
-//! ask, and writes the replies, whatever the devices do.
+//! A [`Desk`] answers asks. [`serve`] reads a client's messages, sends their asks to the desk, and
+//! writes the replies, whatever the devices do.
 #![tactic(auto)]
 
 ghost use Rattle.std.specs.Prelude.{◌≡◌, ◌≤◌, ◌+◌, ◌↔◌, true, false, IfErr, OnOk, IsErrOf};
@@ -28,21 +28,23 @@ pub use serve_fault::ServeFault;
 pub use session_watch::{NoWatch, SessionWatch};
 use std::alloc::Global;
 
-/// Serves one client to the end of its session: writes the session's greeting, reads the client's
-/// bytes in pieces of at most 1,024, at most 1,000,000 times, and answers each message in turn, by
-/// itself or upon the desk's answer (the messages and replies are Asterisk's Manager Interface, the
-/// limits this project's own). All that is due is written before the next read. The watch sees the
-/// session after each message that is answered. `Ok` after a message that ends the session is
-/// answered (a Logoff, or a refused Login with the last try), or where the reader has ended; bytes
-/// behind such a message make no difference, and none are read but with its last piece. It returns
-/// if the desk's calls and the watch's do.
+/// Serves one client to the end of its session. It writes the session's greeting, reads the
+/// client's bytes in pieces of at most 1,024, at most 1,000,000 times, and replies to each message
+/// in turn, from the session alone or with the desk's answer (the messages and replies are
+/// Asterisk's Manager Interface, the limits this project's own). It writes all replies that are due
+/// before the next read. The watch sees the session after each reply.
 ///
-/// Faults, as each comes: `Read` where the reader failed; `Write` where the writer failed, or took
-/// none of bytes that aren't empty; `LineTooLong` and `TooManyFields` where the client's stream has
-/// them, once the messages before are answered, and nothing is read behind the piece that shows
-/// them; `DeskDown` where the desk gave no answer; `Turns` where 1,000,000 reads gave no end;
-/// `Memory`, of the session itself. What was written is then a front of the session's text, and but
-/// for `Write` it ends behind its greeting or a whole reply.
+/// Returns `Ok` after the reply to a message that ends the session (a Logoff, or a refused Login
+/// with the last try), or where the reader has ended. Bytes after such a message have no effect,
+/// and the only ones that are read are those of its last piece. It terminates if the desk's calls
+/// and the watch's do.
+///
+/// Errors, each as it occurs: `Read` if the reader failed; `Write` if the writer failed, or took
+/// none of bytes that aren't empty; `LineTooLong` and `TooManyFields` if the client's stream has
+/// them, after the replies to the messages before, and nothing is read after the piece that shows
+/// them; `DeskDown` if the desk gave no answer; `Turns` if 1,000,000 reads gave no end; `Memory`,
+/// if the session itself is out of memory. The bytes written are then a prefix of the session's
+/// text, and except after `Write` they end with its greeting or a whole reply.
 pub fn serve<R, S: Source, W: Sink, D: Desk<R>, V: SessionWatch<R>>(
     rt: &R,
     alloc: Global,
@@ -55,31 +57,31 @@ pub fn serve<R, S: Source, W: Sink, D: Desk<R>, V: SessionWatch<R>>(
     requires reader { S.failed reader.old ≡ false }
     requires writer { W.failed writer.old ≡ false }
 
-    // The session's text was written, upon the bytes that were read and the desk's answers.
+    // The session's text was written, for the bytes that were read and the desk's answers.
     ensures served { OnOk result (HasCarried (S.left reader.old) (S.left reader.new)
         (W.taken writer.old) (W.taken writer.new)
         (IsServed D.answers session desk.old desk.new (S.ended reader.new) (S.left reader.new))) }
 
-    // After a fault a front of it was.
+    // After a fault a prefix of the session's text was written.
     ensures left { IfErr result (λ fault. HasCarried (S.left reader.old) (S.left reader.new)
         (W.taken writer.old) (W.taken writer.new)
         (IsLeftBy D.answers D.refuses session desk.old desk.new fault)) }
 
-    // The first two faults stand exactly where their device has failed, the third only where its
-    // cause does; those of the stream and of the desk say theirs above.
+    // `Read` and `Write` are returned exactly where their device has failed, and the third only
+    // where its cause applies; the clauses above state the faults of the stream and of the desk.
     ensures read { IsErrOf result ServeFault.Read ↔ (S.failed reader.new ≡ true) }
     ensures write { IsErrOf result ServeFault.Write ↔ (W.failed writer.new ≡ true) }
     ensures turns { IsErrOf result ServeFault.Turns → (S.ended reader.new ≡ false)
         × HasGiven (S.left reader.old) (S.left reader.new) 1000000 }
 
-    // It reads at most 1,000,000 times, and so at most 1,024,000,000 bytes.
+    // A session reads at most 1,000,000 times, and so at most 1,024,000,000 bytes.
     ensures reads { S.reads_left reader.old ≤ S.reads_left reader.new + 1000000 }
     ensures bytes { HasGivenUpTo (S.left reader.old) (S.left reader.new) 1024000000 }
 
     // The desk has answered asks, and may have refused one more.
     ensures desk { HasWorked D.answers D.refuses desk.old desk.new }
 
-    // At Ok both devices work.
+    // After `Ok` both devices work.
     ensures works { OnOk result ((S.failed reader.new ≡ false) × (W.failed writer.new ≡ false)) }
 {
     messages_so_far();

@@ -5,11 +5,11 @@ use replica::Replica;
 use status_report::{Answer, Ask, ask};
 use std::alloc::Global;
 
-/// The desk of a replica that is asked by nobody else. It is never down, and waits for nobody.
+/// The desk of a replica with no other caller. It is never down, and waits for no thread.
 #[derive(Drop)]
 pub struct ReplicaDesk {
     alloc: Global,
-    /// What answers.
+    /// The site that answers.
     pub replica: Replica,
 }
 

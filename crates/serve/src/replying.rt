@@ -1,4 +1,4 @@
-//! What is done upon a message: the desk is asked, and the reply is written.
+//! Replies to messages: asks the desk, and writes the reply.
 ghost use Rattle.std.specs.Prelude.{◌≡◌, true, false, IfOk, IfErr, OnOk, OnErr};
 ghost use Rattle.std.specs.Io.KnownBytes.{Appends};
 ghost use Rattle.ami_text.specs.Devices.{HasTaken};
@@ -14,7 +14,7 @@ use ami_text::{Failed, Message, Sink, write_all};
 use status_report::Ask;
 use std::alloc::Global;
 
-// Writes all the bytes. Fault: `Write`; a front of them was written.
+// Writes all the bytes. Error: `Write`, after a prefix of them.
 fn write<W: Sink>(writer: &mut W, bytes: &[u8]) -> Result<(), ServeFault>
     requires { W.failed writer.old ≡ false }
     ensures written { OnOk result (Appends (W.taken writer.old) (W.taken writer.new) bytes.now) }
@@ -27,7 +27,7 @@ fn write<W: Sink>(writer: &mut W, bytes: &[u8]) -> Result<(), ServeFault>
 
 /// Writes the session's greeting.
 ///
-/// `Failed`: the sink failed, and has taken a front of it.
+/// `Failed`: the sink failed, and has taken a prefix of it.
 pub fn greet<W: Sink>(writer: &mut W, session: &Session) -> Result<(), Failed>
     requires { W.failed writer.old ≡ false }
     ensures written { OnOk result
@@ -41,8 +41,7 @@ pub fn greet<W: Sink>(writer: &mut W, session: &Session) -> Result<(), Failed>
     write_all(writer, b"\r\n")
 }
 
-// Asks the desk, and writes the reply that follows from its answer. Faults: `Write`, `DeskDown`,
-// `Memory`.
+// Asks the desk, and writes the reply with its answer. Errors: `Write`, `DeskDown`, `Memory`.
 fn answer_ask<R, W: Sink, D: Desk<R>>(
     rt: &R,
     alloc: Global,
@@ -65,7 +64,7 @@ fn answer_ask<R, W: Sink, D: Desk<R>>(
     }
 }
 
-// Does what a session does upon a message. It tells whether the session ends with it. Faults:
+// Performs a session's reaction to a message. Returns whether the session ends with it. Errors:
 // `Write`, `DeskDown`, `Memory`.
 fn perform<R, W: Sink, D: Desk<R>>(
     rt: &R,
@@ -95,9 +94,9 @@ fn perform<R, W: Sink, D: Desk<R>>(
     }
 }
 
-/// Answers a message. It tells whether the session ends with it.
+/// Replies to a message. Returns whether the session ends with it.
 ///
-/// Faults: `Write`, `DeskDown`, `Memory`.
+/// Errors: `Write`, `DeskDown`, `Memory`.
 pub fn answer_message<R, W: Sink, D: Desk<R>>(
     rt: &R,
     alloc: Global,

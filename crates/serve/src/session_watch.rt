@@ -1,12 +1,12 @@
 use ami_session::Session;
 
-/// What looks on at a session. `R` is the handle that its calls take, where they wait for somebody.
+/// Observes a session. `R` is the handle that its calls take, where they wait for another thread.
 pub trait SessionWatch<R> {
-    /// Called after each message that was answered, with the session as it is then.
+    /// Called after each reply to a message, with the session's state at that time.
     fn after_message(&mut self, rt: &R, session: &Session);
 }
 
-/// Looks at nothing.
+/// A watch that does nothing.
 #[derive(Clone, Copy)]
 pub struct NoWatch;
 

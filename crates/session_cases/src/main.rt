@@ -1,11 +1,15 @@
 //! Serves one session of a new site from standard input, for tests by files:
 //! `session_cases [--greeting=TEXT] [--tries=N] [--take=FRAME] PIECE USER SECRET QUEUE..`.
 //!
-//! Standard input is what the client sends. It is read whole, and then given to the session in pieces of at most PIECE bytes. A session
-//! with no USER, an empty word, is trusted; where no greeting is given it has its own; where tries are given it ends with its refused Login
-//! of that number. The site has the number 0 and the queues that are
-//! named, in that order. It knows nothing at first, or what a frame says that it has taken, given as hexadecimal. What the session writes
-//! goes to standard output, also where it ends with a fault.
+//! Standard input holds the client's bytes. The program reads it whole and gives it to the session in pieces of at most PIECE
+//! bytes.
+//!
+//! - With an empty USER the session is trusted: it needs no Login.
+//! - Without a greeting the session sends its default greeting.
+//! - With `--tries=N` the session ends at its Nth refused Login.
+//! - The site has the number 0 and the named queues, in that order. With `--take=FRAME`, in hexadecimal, it has taken that frame.
+//!
+//! The program writes the session's text to standard output, also when the session ends with a fault.
 //!
 //! | Status | How the session ended |
 //! |---|---|
@@ -16,10 +20,10 @@
 //! | 13 | `TooManyFields`: a message has more than 128 lines |
 //! | 14 | `DeskDown`: the desk gave no answer |
 //! | 15 | `Turns`: 1,000,000 reads gave no end |
-//! | 16 | `Memory`: memory was wanting |
+//! | 16 | `Memory`: out of memory |
 //!
-//! No session was served where the status is 1, since standard input could not be read, memory was wanting or a text could not be
-//! printed; or 2, since the words are wrong, as a line on standard error says. A case whose file gives no words has `1024`, two empty ones and
+//! With status 1 no session was served: reading standard input failed, memory ran out or a text could not be printed. With status 2
+//! the command line was wrong; standard error has a line. A case file without a command line gets `1024`, two empty words and
 //! `sales`.
 #![tactic(auto)]
 
@@ -40,7 +44,7 @@ use std::rt::Env;
 const USAGE: &str =
     "usage: session_cases [--greeting=TEXT] [--tries=N] [--take=FRAME] PIECE USER SECRET QUEUE..";
 
-// What the words of the command line tell.
+// The parts of the command line.
 #[derive(Clone, Copy)]
 struct Told<'a> {
     greeting: Option<&'a str>,
@@ -57,7 +61,7 @@ fn main(rt: HostRuntime) -> ExitCode {
     ExitCode::from(run(&rt).unwrap_or(1))
 }
 
-// Runs the program, and answers its status. `Err`: the words or standard input could not be read, or a text not be printed.
+// Runs the program, and returns its exit status. `Err`: reading the words or standard input failed, or a text could not be printed.
 fn run<R: Env + AllocGlobal + Print + Eprint + Input>(rt: &R) -> io::Result<u8> {
     let mut words = Vec::new(rt.alloc());
     for word in std::env::args(rt)? {
@@ -78,7 +82,7 @@ fn run<R: Env + AllocGlobal + Print + Eprint + Input>(rt: &R) -> io::Result<u8> 
     }
 }
 
-// What stands behind `front` in the first word where that begins with it, and the other words; else all words.
+// If the first word begins with `front`: the rest of that word, and the other words. Otherwise all words.
 fn optional<'a>(front: &str, words: &'a [String]) -> (Option<&'a str>, &'a [String]) {
     let [first, rest @ ..] = words else {
         return (None, words);
@@ -89,7 +93,7 @@ fn optional<'a>(front: &str, words: &'a [String]) -> (Option<&'a str>, &'a [Stri
     }
 }
 
-// What these words tell, of which the first is the program's own name.
+// Parses the command line, whose first word is the program's own name.
 fn read_words(words: &[String]) -> Option<Told<'_>> {
     let [_, words @ ..] = words else {
         return None;
@@ -114,7 +118,8 @@ fn read_words(words: &[String]) -> Option<Told<'_>> {
     }
 }
 
-// Serves a session by the words of the command line. `None`: a word is no text of a session, no list of queues, or no frame that the site takes.
+// Serves a session by the words of the command line. `None`: a word is no text of a session, no list of queues, or no frame that
+// the site takes.
 fn serve_told<R: AllocGlobal + Print>(
     rt: &R,
     stream: &[u8],
@@ -165,7 +170,7 @@ fn queue_list(alloc: Global, queues: &[String]) -> Option<QueueList> {
     QueueList::new(alloc, &names).ok()
 }
 
-// Site 0 of these queues, which has taken the given frame, if there is one.
+// Site 0 of these queues, after it has taken the given frame, if there is one.
 fn replica(alloc: Global, told: Told<'_>) -> Option<Replica> {
     let site = SiteId::new(0)?;
     let list = queue_list(alloc, told.queues)?;
@@ -180,7 +185,7 @@ fn replica(alloc: Global, told: Told<'_>) -> Option<Replica> {
     None
 }
 
-// Whether a site takes the frame that these digits spell.
+// Lets a site take the frame that these hexadecimal digits spell. Returns whether it took it.
 fn has_taken(alloc: Global, replica: &mut Replica, digits: &str) -> bool {
     let Ok(bytes) = hex::decode(alloc, digits) else {
         return false;
@@ -193,7 +198,7 @@ fn has_taken(alloc: Global, replica: &mut Replica, digits: &str) -> bool {
     }
 }
 
-// The exit status that tells how a session ended.
+// The exit status for the end of a session.
 fn status(served: Result<(), ServeFault>) -> u8 {
     match served {
         Ok(()) => 0,

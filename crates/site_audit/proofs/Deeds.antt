@@ -1,4 +1,4 @@
--- What comes of the event of each deed.
+-- The effect of the event of each deed.
 use Rattle.std.proofs.Common.{◌≡◌, inl, inr, ℕ, List, [], ◌∷◌, ◌++◌, length, slice_get, Some, None, Result, refl, sym, ap, subst, ◌∙◌}
 use Rattle.delta.specs.declared.frame.Frame.{Frame}
 use Rattle.delta_codec.specs.Frames.{SpellsIn}
@@ -40,7 +40,7 @@ use Rattle.site_audit.specs.Runs.{GivesDeed, IsSpelling, IsSpelledAt, MakesBytes
 use Rattle.site_audit.proofs.Lists.{get_last}
 use Rattle.site_audit.proofs.Advance.{happens_known}
 
--- what comes of an event is what a deed has
+-- the effect of an event is that of a deed
 pub record Comes (names : List (List ℕ)) (w : World) (s : SiteKnowledge) (e : Event) (deed : StepDeed) (to : SiteState) : Type 0 where
   pub gives : GivesDeed names w e deed
   pub is : IsSiteOf names (site_of e) to (happens_at names w.pool s e).site

@@ -31,7 +31,7 @@ drop_none : {X : Type 0} (xs : List X) → drop 0 xs ≡ xs
 drop_none [] = refl
 drop_none (x ∷ xs) = refl
 
--- each of so many equal ones is there
+-- a list of `n` copies has one at each place
 replicated : {X : Type 0} (n : ℕ) (x : X) (i : ℕ) → i < n → slice_get (replicate n x) i ≡ Some x
 replicated zero x i lt = absurd (omega (arith, lt))
 replicated (suc n) x zero lt = refl

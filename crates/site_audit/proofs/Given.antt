@@ -10,7 +10,7 @@ pub run_more : (names : List (List ℕ)) (w : World) (es : List Event) (e : Even
 run_more names w [] e = refl
 run_more names w (x ∷ es) e = run_more names (happens names w x).0 es e
 
--- it gives its site a step more
+-- one more event gives its site one more step
 pub given_more : (names : List (List ℕ)) (w : World) (es : List Event) (e : Event) (site : ℕ) (steps : List Step) (step : Step) → AreGiven names w es site steps → site_of e ≡ site
     → GivesDeed names (run names w es).0 e step.deed → AreGiven names w (es ++ e ∷ []) site (steps ++ step ∷ [])
 given_more names w [] e site steps step h of gives = inl (of, step, [], ap (λ s. s ++ step ∷ []) h, gives, refl)
@@ -18,7 +18,7 @@ given_more names w (x ∷ es) e site steps step (inl p) of gives =
     inl (p.0, p.1, p.2 ++ step ∷ [], ap (λ s. s ++ step ∷ []) p.3, p.4, given_more names (happens names w x).0 es e site p.2 step p.5 of gives)
 given_more names w (x ∷ es) e site steps step (inr p) of gives = inr (p.0, given_more names (happens names w x).0 es e site steps step p.1 of gives)
 
--- and no other
+-- one more event gives no other site a step
 pub given_other : (names : List (List ℕ)) (w : World) (es : List Event) (e : Event) (site : ℕ) (steps : List Step) → AreGiven names w es site steps → site_of e ≢ site
     → AreGiven names w (es ++ e ∷ []) site steps
 given_other names w [] e site steps h apart = inr (apart, h)

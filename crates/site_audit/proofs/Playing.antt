@@ -100,7 +100,7 @@ pool_more old new entries added (Some bytes) is found made =
 
 module _ (may : MayTakeEntries) (names : List (List ℕ)) (sites : ℕ) (w : World) (reached : IsReached names sites w) (find : List ℕ → Option ℕ) (index : IsIndexOf find w.pool)
     (s : SiteKnowledge) (site : ℕ) (from to : SiteState) (knows : slice_get w.sites site ≡ Some s) (is : IsSiteOf names site from s) where
-  -- it comes
+  -- the event that is tried for a deed that leads the site on has the effect of the deed
   pub must_come : (e : Event) (deed : StepDeed) → event_for find site deed ≡ Some e → Leads from deed to → (site_of e ≡ site) × Comes names w s e deed to
   must_come e (Asked asked answer) h l =
       subst (λ (x : Event). (site_of x ≡ site) × Comes names w s x (Asked asked answer) to) (one_some _ e h) (refl, ask_comes names w s site from to knows is asked answer l)

@@ -1,4 +1,4 @@
--- What a search that can't go on has shown.
+-- What holds after a search that can't go on.
 use Rattle.std.specs.Prelude.{ℕ, ◌≡◌, ◌<◌, List, Some, length, slice_get}
 use Rattle.site_journal.specs.Journals.{JournalState}
 

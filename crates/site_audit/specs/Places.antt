@@ -1,4 +1,4 @@
--- How far a search for one run has come.
+-- The state of a search for one run.
 use Rattle.std.specs.Prelude.{ℕ, ◌≡◌, ◌<◌, List, [], ◌∷◌, Option, Some, None, length, drop, slice_get}
 use Rattle.std.specs.List.{All}
 use Rattle.replica.specs.Site.{SiteState}
@@ -32,7 +32,7 @@ pub record IsIndexOf (find : List ℕ → Option ℕ) (pool : List Entry) : Type
   pub some : (bytes : List ℕ) (place : ℕ) → find bytes ≡ Some place → IsSpelledAt pool place bytes
   pub none : (bytes : List ℕ) (place : ℕ) → find bytes ≡ None → IsSpelledAt pool place bytes → ⊥
 
--- the entries `added` are those that bytes spell: one, or none where there are no bytes
+-- the entries `added` are those that the bytes spell: one, or none if there are no bytes
 abbrev pub AreSpelled : Option (List ℕ) → List Entry → Type 0
 AreSpelled None added = added ≡ []
 AreSpelled (Some bytes) added = (entry : Entry) × (added ≡ entry ∷ []) × IsSpelling bytes entry

@@ -20,15 +20,15 @@ use Rattle.site_audit.specs.Runs.{world_after}
 abbrev pub found_in : Pool → List ℕ → Option ℕ
 found_in pool bytes = tree.get_by (λ key. slice_cmp nat_cmp bytes key.now) pool.places
 
--- replay `r` stands where its events have come: they have given each site as many steps as `r.at`
--- says, and its pool finds the entries that they made
+-- replay `r` agrees with its events: they have given each site as many steps as `r.at` says, and its pool finds the entries that
+-- they made
 pub record IsReplay (journals : List JournalState) (r : Replay) : Type 0 where
   pub is : HaveGiven journals r.at.items r.events.items
   pub index : IsIndexOf (found_in r.pool) (world_after journals r.events.items).pool
   pub entries : r.pool.entries ≡ length (world_after journals r.events.items).pool
   pub few : r.pool.entries ≤ length r.events.items
 
--- `deed` is that of the next step of `site`, behind those that replay `r` has given it
+-- `deed` is that of the next step of `site`, after those that replay `r` has given it
 pub record IsNextStep (journals : List JournalState) (r : Replay) (site : ℕ) (deed : StepDeed) : Type 0 where
   pub j : JournalState
   pub n : ℕ
@@ -78,7 +78,7 @@ pub record HasPut (old new : Replay) (site : ℕ) (e : Event) (deed : StepDeed) 
   pub events : new.events.items ≡ old.events.items ++ e ∷ []
   pub found : HasFound old.pool new.pool (made_by deed)
 
--- in replay `r` nothing is played yet of any of `sites` journals
+-- in replay `r` no step of `sites` journals is placed yet
 pub record IsUnplayed (r : Replay) (sites : ℕ) : Type 0 where
   pub count : length r.at.items ≡ sites
   pub at : (site n : ℕ) → slice_get r.at.items site ≡ Some n → n ≡ 0

@@ -1,4 +1,4 @@
--- When journals are one run of events, and when events are stuck (this project's own).
+-- When journals are one run of events, and when events are stuck.
 use Rattle.std.specs.Prelude.{ℕ, ◌≡◌, ◌≢◌, ◌<◌, ◌≤◌, ◌⊎◌, List, [], ◌∷◌, Some, None, Ok, length, take, slice_get}
 use Rattle.std.specs.List.{All}
 use Rattle.delta.specs.Standing.{IsDeltaOf}
@@ -17,7 +17,7 @@ use Rattle.sites_world.specs.declared.outcome.Outcome.TheVariants as outcome
 use Rattle.sites_world.specs.Worlds.{Entry, World, happens, new_world, run, site_of}
 use Rattle.sites_world.specs.WorldStates.{IsSiteOf}
 
--- ---- what an event gives
+-- ---- the effect of an event
 
 -- `bytes` spell the frame of `entry` in the version that is written: it has its maker and number, and
 -- says what the entry carries
@@ -40,8 +40,8 @@ pub record MakesBytes (names : List (List ℕ)) (w : World) (e : Event) (bytes :
   pub told : (happens names w e).1 ≡ outcome.Cut (Ok (Some place))
   pub spelled : IsSpelledAt (happens names w e).0.pool place bytes
 
--- event `e` in world `w` gives its site this deed: what was asked is answered so; the frame that
--- was taken, or made, is the one that the bytes spell
+-- event `e` in world `w` gives its site this deed: the ask has this answer; the frame that was taken, or made, is the one that the
+-- bytes spell
 abbrev pub GivesDeed : List (List ℕ) → World → Event → StepDeed → Type 0
 GivesDeed names w (event.Ask site asked) (Asked told answer) = (told ≡ asked) × ((happens names w (event.Ask site asked)).1 ≡ outcome.Answered answer)
 GivesDeed names w (event.Take site place) (Took bytes) = ((happens names w (event.Take site place)).1 ≡ outcome.Took (Ok tt)) × IsSpelledAt w.pool place bytes
@@ -50,7 +50,7 @@ GivesDeed names w (event.Cut site) (Cut (Some bytes)) = MakesBytes names w (even
 GivesDeed names w (event.Whole site) (Whole bytes) = MakesBytes names w (event.Whole site) bytes
 GivesDeed names w e deed = ⊥
 
--- events in turn, from world `w` on, give `site` these steps, in their order, and no others
+-- events in turn, from world `w` on, give `site` these steps, in order, and no others
 abbrev pub AreGiven : List (List ℕ) → World → List Event → ℕ → List Step → Type 0
 AreGiven names w [] site steps = steps ≡ []
 AreGiven names w (e ∷ es) site steps =
@@ -64,24 +64,24 @@ abbrev pub names_in : List JournalState → List (List ℕ)
 names_in [] = []
 names_in (j ∷ js) = j.base.names
 
--- `journals` are those of the sites 0, 1, .. in their order, with one list of queues
+-- `journals` are those of the sites 0, 1, .. in order, with one list of queues
 pub record AreSites (journals : List JournalState) : Type 0 where
   pub numbers : (site : ℕ) (j : JournalState) → slice_get journals site ≡ Some j → j.base.site ≡ site
   pub names : (site : ℕ) (j : JournalState) → slice_get journals site ≡ Some j → j.base.names ≡ names_in journals
 
--- journal `j` has all that its site did: no step was dropped, and it began from a new replica
+-- journal `j` has all steps of its site: no step was dropped, and it began from a new replica
 pub record IsFromNew (j : JournalState) : Type 0 where
   pub start : j.start ≡ 0
   pub base : IsNew j.base
 
--- `site` is the first whose journal hasn't all that the site did
+-- `site` is the first whose journal hasn't all steps of the site
 pub record IsFirstStale (journals : List JournalState) (site : ℕ) : Type 0 where
   pub j : JournalState
   pub is : slice_get journals site ≡ Some j
   pub stale : IsFromNew j → ⊥
   pub before : (earlier : ℕ) (k : JournalState) → earlier < site → slice_get journals earlier ≡ Some k → IsFromNew k
 
--- the world that `events` lead to, from as many sites that know nothing as there are journals
+-- the world that `events` lead to, from as many new sites as there are journals
 abbrev pub world_after : List JournalState → List Event → World
 world_after journals events = (run (names_in journals) (new_world (length journals)) events).0
 

@@ -4,7 +4,7 @@ use thiserror::Error;
 /// Why there is no list of events for journals (this project's own).
 #[derive(Clone, Copy, Debug, PartialEq, Eq, Error)]
 pub enum AuditFault {
-    /// The journals aren't those of the sites 0, 1, .. in their order, or have two lists of queues.
+    /// The journals aren't those of the sites 0, 1, .. in order, or have two lists of queues.
     #[error("not the journals of sites 0, 1 and so on, with one list of queues")]
     WrongSites,
     /// The first site whose journal isn't fresh: steps were dropped, or it began from a replica that wasn't new.

@@ -14,7 +14,7 @@ use site_journal::Journaled;
 use sites_world::Event;
 use std::alloc::Global;
 
-// Whether journals are those of the sites 0, 1, .. in their order, of one list of queues.
+// Whether journals are those of the sites 0, 1, .. in order, of one list of queues.
 fn are_sites(journals: &[Journaled]) -> bool
     ensures sites { IsTrue result ↔ AreSites journals.now }
     ensures few { IsTrue result → length journals.now ≤ 64 }
@@ -33,7 +33,7 @@ fn are_sites(journals: &[Journaled]) -> bool
     true
 }
 
-// Whether a replica knows nothing, and has used no number.
+// Whether a replica is new: it knows nothing, and has used no number.
 fn is_new(replica: &Replica) -> bool
     ensures { IsTrue result ↔ IsNew replica.now }
 {
@@ -45,7 +45,7 @@ fn is_new(replica: &Replica) -> bool
         && frames == 0
 }
 
-// Whether a journal is fresh: no step was dropped, and it began from a new replica. So it has all that its site did.
+// Whether a journal is fresh: no step was dropped, and it began from a new replica. So it has all steps of its site.
 fn is_from_new(journal: &Journaled) -> bool
     ensures whole { IsTrue result ↔ IsFromNew journal.now }
     ensures journal { IsJournal journal.now }
@@ -89,16 +89,17 @@ fn least_left(journals: &[Journaled], at: &[usize]) -> Option<usize>
     None
 }
 
-/// One list of events that gives each site exactly its journal. The journals are those of the sites 0, 1, .. in order, and fresh: each
-/// began from a new replica and still has all its steps. In the world of operations each ask is answered as the journal says, and each
-/// frame that is made or taken is the one that the bytes there spell. After the last event each site knows what its replica stands for.
-/// No journals give no events. The list has one event for each step, in the audit's own order. No frame is decoded: a frame that was
-/// taken is found by its bytes among those that were made, so it isn't found where its bytes are of an older version.
+/// One list of events that gives each site exactly its journal. The journals are those of the sites 0, 1, .. in order, and fresh:
+/// each began from a new replica and still has all its steps. In the world of operations each ask is answered as the journal says,
+/// and each frame that is made or taken is the one that the bytes there spell. After the last event each site knows what its
+/// replica stands for. No journals give no events. The list has one event for each step, in the audit's own order. No frame is
+/// decoded: a frame that was taken is found by its bytes among those that were made, so it isn't found where its bytes are of an
+/// older version.
 ///
-/// Errors, in order: 1 `WrongSites`, exactly where the journals aren't those of the sites 0, 1, .. in order, or have two lists of queues;
-/// 2 `NotFresh`, exactly where a journal isn't fresh, with the first such site; 3 `NoRun`, with a site and a position, where a list of
-/// events is stuck: it gives that site its steps before the position and not all, each lesser site all of its own, each other site its
-/// first ones, and no further event gives any site its next; 4 `Memory` (this project's own).
+/// Errors, in order: 1 `WrongSites`, exactly where the journals aren't those of the sites 0, 1, .. in order, or have two lists of
+/// queues; 2 `NotFresh`, exactly where a journal isn't fresh, with the first such site; 3 `NoRun`, with a site and a position,
+/// where a list of events is stuck: it gives that site its steps before the position and not all, each lesser site all of its own,
+/// each other site its first ones, and no further event gives any site its next; 4 `Memory`.
 pub fn audit(alloc: Global, journals: &[Journaled]) -> Result<Vec<Event>, AuditFault>
     ensures run { IfOk result (λ events. IsRun journals.now events.items) }
     ensures none { journals.now ≡ [] → IsOkAnd result (λ events. events.items ≡ []) }

@@ -1,4 +1,4 @@
-//! What a world that runs the events of an audit says, and what no run of journals has. The functions have no body: their contracts are
+//! Laws of worlds that run the events of an audit, and of journals without a run. The functions have no body: their contracts are
 //! the laws.
 ghost use Rattle.std.specs.List.{All};
 ghost use Rattle.std.specs.Prelude.{◌≡◌, ◌≢◌, ℕ, List, Some, length, slice_get};
@@ -15,8 +15,8 @@ ghost use Rattle.sites_world.specs.Worlds.{new_world};
 ghost use Rattle.sites_world.specs.WorldStates.{HaveHappened, WorldState};
 ghost use Rattle.site_audit.specs.Runs.{IsRun, names_in};
 
-/// A new world that runs the events of an audit, none of them `NoMemory`, has replicas that say what those of the journals say: the same
-/// members and totals, in the buffer too, and the same last numbers (this project's own).
+/// A new world that runs the events of an audit, none of them `NoMemory`, has replicas that say the same as those of the journals:
+/// the same members and totals, in the buffer too, and the same last numbers.
 pub fn a_world_that_runs_an_audit_says_what_the_journals_say()
     ensures { (journals : List JournalState) (events : List Event) (outcomes : List Outcome)
         (new : WorldState) (site : ℕ) (j : JournalState) (state : SiteState)
@@ -27,8 +27,8 @@ pub fn a_world_that_runs_an_audit_says_what_the_journals_say()
         → IsSameSite j.replica state }
 {}
 
-/// Where a journal has the take of a frame that its bytes spell in another version than that which is written, no list of events is one run of
-/// the journals: none makes these bytes. So an audit lists no events for them (this project's own).
+/// If a journal has the take of a frame in a version other than the one that sites write, no list of events is one run of the
+/// journals, since no event makes these bytes. So an audit lists no events for them.
 pub fn no_run_takes_a_frame_of_another_version()
     ensures { (journals : List JournalState) (site position version : ℕ) (j : JournalState)
         (step : Step) (bytes : List ℕ) (frame : Frame) (events : List Event)

@@ -1,7 +1,8 @@
 //! One list of events that explains the journals of all sites.
 //!
-//! An audit plays the steps of all journals, each behind those that it needs: a take waits until its frame was made. Where all were
-//! played, the list of events gives each site exactly its journal in the world of operations. Where none can go on, the list is stuck.
+//! An audit replays the steps of all journals, each after those that it needs: a take waits until its frame was made. If all are
+//! replayed, the list of events gives each site exactly its journal in the world of operations. If no step can follow, the list is
+//! stuck.
 #![tactic(auto)]
 
 mod audit_fault;

@@ -12,7 +12,7 @@ use sites_world::Event;
 use sites_world::laws::a_site_may_take_every_entry;
 use std::alloc::Global;
 
-// How far a search has come.
+// The state of a search.
 #[derive(Drop)]
 pub(crate) struct Replay<'a> {
     // How many steps each site was given, by the sites' numbers.
@@ -24,7 +24,7 @@ pub(crate) struct Replay<'a> {
 }
 
 impl<'a> Replay<'a> {
-    // A replay in which nothing is played yet of any of `sites` journals.
+    // A replay in which no step of `sites` journals is placed yet.
     pub(crate) fn begin(alloc: Global, sites: usize) -> Result<Replay<'a>, Memory>
         ensures { IfOk result (λ replay. IsUnplayed replay sites) }
     {
@@ -39,7 +39,7 @@ impl<'a> Replay<'a> {
         })
     }
 
-    // Puts an event at the end that gives `site` its next step, with this deed, and the frame that this made, if any, into the pool.
+    // Appends an event that gives `site` its next step, with this deed, and puts the deed's frame, if it made one, into the pool.
     fn put(&mut self, site: SiteId, event: Event, deed: &'a StepDeed) -> Result<(), Memory>
         requires within { site < length self.old.at.items }
         requires fits { slice_index self.old.at.items site + 1 < 2 ^ 64 }
@@ -71,7 +71,7 @@ fn event_for<'a>(pool: &Pool<'a>, site: SiteId, deed: &'a StepDeed) -> Result<Op
     }
 }
 
-// Gives the site at this place of the journals its next step, if that can be; tells whether it could.
+// Gives the site at this place of the journals its next step, if the step is possible now. Returns whether it was.
 fn play<'a>(
     journals: &'a [Journaled],
     replay: &mut Replay<'a>,
@@ -100,7 +100,7 @@ fn play<'a>(
     }
 }
 
-// Gives each site in turn its next step, if that can be; tells whether some could.
+// Gives each site in turn its next step, if the step is possible now. Returns whether one was.
 fn round<'a>(journals: &'a [Journaled], replay: &mut Replay<'a>) -> Result<bool, Memory>
     requires sites { AreSites journals.now }
     requires kept { IsReplay journals.now replay.old }

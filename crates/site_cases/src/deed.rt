@@ -1,4 +1,4 @@
-//! What is done at a site, where it is done, and how that ends.
+//! Deeds at a site, the places where they are done, and their results.
 use site_journal::{DeskFault, Receipt};
 use status_report::Ask;
 use std::alloc::Global;
@@ -26,7 +26,7 @@ pub(crate) enum End {
     // The steps stay.
     Stays,
     Refused(DeskFault),
-    // It was refused, and something has changed, or bytes did not come back as they were.
+    // The deed was refused, and something has changed, or bytes were not returned as they were.
     Changed,
     // The place has no such deed.
     Unknown,

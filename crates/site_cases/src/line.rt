@@ -1,4 +1,4 @@
-//! What the lines are.
+//! Reads lines and runs them.
 use crate::deed::{Deed, End, Place};
 use crate::saying::say_done;
 use dots::{Bytes, Interface, Label, Penalty, QueueName, Text80};
@@ -13,7 +13,7 @@ use std::str::Split;
 // The words of a line that are still to be read.
 type Words<'a> = Split<'a, char>;
 
-// Does what a line says at a place, and writes what that gives. The receipt of a step goes behind the others.
+// Runs a line at a place, and writes its result. The receipt of a step is appended to the others.
 pub(crate) fn give_line<R, W: Write, P: Place<R>>(
     rt: &R,
     alloc: Global,
@@ -58,7 +58,8 @@ fn give_fronts<R, W: Write, P: Place<R>>(
     Ok(())
 }
 
-// Does a deed, and writes how it ended: where an allocation is refused, `memory` and how the deed ends once more.
+// Does a deed, and writes its result. If an allocation is refused, writes `memory`, retries the deed and writes
+// that result.
 fn give<R, W: Write, P: Place<R>>(
     rt: &R,
     alloc: Global,
@@ -82,7 +83,7 @@ fn give<R, W: Write, P: Place<R>>(
     Ok(())
 }
 
-// What a line says is to be done. None where it isn't understood.
+// The deed of a line. `None` if it isn't understood.
 fn read_deed(alloc: Global, line: &str) -> io::Result<Option<Deed>> {
     if let Some(digits) = line.strip_prefix("take ") {
         return match read_bytes(alloc, digits)? {
@@ -103,7 +104,7 @@ fn read_bytes(alloc: Global, digits: &str) -> io::Result<Option<Vec<u8>>> {
     }
 }
 
-// What words say is to be done.
+// The deed of words.
 fn read_words(alloc: Global, words: &mut Words<'_>) -> Option<Deed> {
     match words.next()? {
         "status" => Some(Deed::Ask(status(alloc))),

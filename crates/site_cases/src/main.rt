@@ -1,11 +1,11 @@
-//! Does at one site what lines of standard input say, for tests by files: `site_cases journal|desk SITE LIMIT QUEUE..`.
+//! Runs lines of standard input at one site, for tests by files: `site_cases journal|desk SITE LIMIT QUEUE..`.
 //!
-//! The site has the number SITE, 0 to 63, and the queues that are named, in that order, and knows nothing at first. Its journal may have
-//! LIMIT steps, 1 to 1,000,000. The lines are done at the journal itself, or by one pass of a desk over it. `docs/model.md`, "Sites in
-//! lines", has the lines and what each gives.
+//! The site has the number SITE, 0 to 63, and the named queues, in that order, and is new. Its journal holds at most LIMIT steps, 1
+//! to 1,000,000. The lines run at the journal itself, or by one pass of a desk over it. `docs/model.md`, "Sites in lines", has the
+//! lines and their results.
 //!
-//! The status is 1 where standard input could not be read, a text not be written, or an allocation was refused that is no line's; and 2
-//! where the words are wrong, as a line on standard error says, or an allocation was refused for them.
+//! Exit status 1: reading standard input or printing failed, or an allocation outside of a line was refused. Exit status 2: the
+//! command line is wrong; standard error has a line; or an allocation for it was refused.
 #![tactic(auto)]
 
 ghost use Rattle.std.specs.Prelude.{◌≡◌, IfSome};
@@ -43,7 +43,7 @@ enum Where {
     Desk,
 }
 
-// What the words of the command line tell.
+// The parts of the command line.
 #[derive(Clone, Copy)]
 struct Told<'a> {
     at: Where,
@@ -56,7 +56,7 @@ fn main(rt: HostRuntime) -> ExitCode {
     ExitCode::from(run(&rt).unwrap_or(1))
 }
 
-// Runs the program, and answers its status. `Err`: standard input could not be read, a text not be written, or an allocation was refused.
+// Runs the program, and returns its exit status. `Err`: reading standard input or printing failed, or an allocation was refused.
 fn run<R: Env + AllocGlobal + Print + Eprint + Input + Wait>(rt: &R) -> io::Result<u8> {
     let mut words = Vec::new(rt.alloc());
     for word in std::env::args(rt)? {
@@ -73,7 +73,7 @@ fn say_usage<R: Eprint>(rt: &R) -> io::Result<u8> {
     Ok(2)
 }
 
-// Does all lines as the words say, writes their results, and returns the status.
+// Runs all lines by these words, writes their results, and returns the status.
 fn write_all<R: AllocGlobal + Print + Eprint + Input + Wait>(
     rt: &R,
     told: &Told<'_>,
@@ -86,7 +86,7 @@ fn write_all<R: AllocGlobal + Print + Eprint + Input + Wait>(
     Ok(0)
 }
 
-// Does all lines as the words say. `false`: there is no site with these queues and this limit.
+// Runs all lines by these words. `false`: there is no site with these queues and this limit.
 fn work<R: AllocGlobal + Input + Wait, W: Write>(
     rt: &R,
     out: &mut W,
@@ -102,7 +102,7 @@ fn work<R: AllocGlobal + Input + Wait, W: Write>(
     Ok(true)
 }
 
-// What these words tell, of which the first is the program's own name.
+// Parses the command line, whose first word is the program's own name.
 fn read_words(words: &[String]) -> Option<Told<'_>> {
     let [_, at, site, limit, queues @ ..] = words else {
         return None;

@@ -23,7 +23,7 @@ pub(crate) fn say_done<W: Write>(alloc: Global, out: &mut W, end: &End) -> io::R
     }
 }
 
-// Writes what was done, behind the step's position.
+// Writes what was done, after the step's position.
 fn say_deed<W: Write>(alloc: Global, out: &mut W, deed: &StepDeed) -> io::Result<()> {
     match deed {
         StepDeed::Asked(_, Answer::Done) => writeln!(out, "done"),

@@ -58,7 +58,7 @@ reached_dropped base old new legal dropped was = let now = reached_now base old 
   lead = lead_same base old.replica new.base now.steps now.lead dropped.base;
 }
 
--- and of which there were none
+-- a journal of which no steps were dropped
 pub begun_dropped : (base : SiteState) (old new : JournalState) → IsJournal old → HasDropped old new → IsReached base old.start old.base → new.start ≡ 0 → IsSameSite base new.base
 begun_dropped base old new legal dropped was none = let now = reached_dropped base old new legal dropped was in no_step base new.base now.steps (omega (arith, now.count, none)) now.lead
 
@@ -84,7 +84,7 @@ deed_site old new (Cut None) is = (is.1.site, is.1.names)
 deed_site old new (Cut (Some bytes)) is = (is.done.made.site, is.done.made.names)
 deed_site old new (Whole bytes) is = (is.done.made.site, is.done.made.names)
 
--- so is what a deed leads to
+-- a deed leads to a state of the same site, with the same queues
 led_site : (from to : SiteState) (deed : StepDeed) → Leads from deed to → (to.site ≡ from.site) × (to.names ≡ from.names)
 led_site from to deed l = let is = deed_site l.old l.new deed l.done in (l.after.site ∙ (is.0 ∙ l.before.site), l.after.names ∙ (is.1 ∙ l.before.names))
 
@@ -130,7 +130,7 @@ module _ (site : ℕ) (names : List (List ℕ)) (limit : ℕ) (base : SiteState)
     reached = λ _. reached_dropped base old new legal dropped (was.reached legal);
   }
 
-  -- or nothing was changed
+  -- the steps were dropped, or nothing was changed
   pub guarded_checkpointed : {F : Type 0} (new : JournalState) (result : Result (Unit {0}) F) → OnOk result (HasDropped old new) → OnErr result (new ≡ old) → IsGuarded site names limit base total new
   guarded_checkpointed new (Ok u) dropped unchanged = guarded_dropped new dropped
   guarded_checkpointed new (Err fault) dropped unchanged = subst (IsGuarded site names limit base total) (sym unchanged) was

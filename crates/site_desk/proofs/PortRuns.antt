@@ -52,7 +52,7 @@ still {L = L} site names p q old receipts cause stop works = ⊎_elim
     (λ refused. record { done = subst (HasDoneAll site names old.now receipts) (sym refused.unchanged) works.done; same = refused.same ∙ works.same })
     (λ same. subst (λ (x : DeskPort L). WorksByPass site names old receipts x.pass) same.1 works) stop
 
--- a fault tells the truth of the pass that it leaves
+-- a length in a fault is less than the pass that it leaves has seen
 truly : {L : Type 0} (p q : DeskPort L) (cause : DeskFault) → PortStop (λ (old : DeskPort L) cause (new : DeskPort L). RefusesByPass old.pass cause new.pass) p cause q → TellsTruly q.pass.now cause
 truly p q cause stop = ⊎_elim
     (λ refused. subst (λ state. TellsTruly state cause) (sym refused.unchanged) refused.told)

@@ -1,4 +1,4 @@
--- What contracts see of the deeds of a desk's site, whose state lies under a lock (this project's own).
+-- What contracts see of the deeds of a desk's site, whose state lies under a lock.
 use Rattle.std.specs.Prelude.{ℕ, ◌≡◌, ◌≤◌, List, length}
 use Rattle.replica.specs.Site.{SiteState}
 use Rattle.replica.specs.declared.take_fault.TakeFault.{TakeFault}
@@ -34,7 +34,7 @@ pub record IsRefusedSomewhere (site : ℕ) (names : List (List ℕ)) (bytes : Li
   pub names_are : old.names ≡ names
   pub refuses : IsRefusedFrame old bytes fault
 
--- a site that began in state `base` comes to `state` by `position` legal steps, one after another
+-- a site that began in state `base` is in `state` after `position` legal steps
 pub record IsReached (base : SiteState) (position : ℕ) (state : SiteState) : Type 0 where
   pub steps : List Step
   pub count : length steps ≡ position

@@ -1,4 +1,4 @@
--- What holds of a journal whenever the lock of its desk is free (this project's own).
+-- The invariant of a journal whenever the lock of its desk is free.
 use Rattle.std.specs.Prelude.{ℕ, ◌≡◌, List}
 use Rattle.replica.specs.Site.{IsSameSite, SiteState}
 use Rattle.site_journal.specs.Journals.{IsJournal, IsOfSite, JournalState}

@@ -1,4 +1,4 @@
--- What contracts see of passes, and of what is done by them (this project's own).
+-- What contracts see of passes, and of their steps.
 use Rattle.std.specs.List.{Any}
 use Rattle.std.specs.Prelude.{ℕ, ◌≡◌, ◌<◌, ◌≤◌, ◌+◌, ◌-◌, ⊤, List, length, sum_by, slice_index_or}
 use Rattle.site_journal.specs.declared.desk_fault.DeskFault.{DeskFault}
@@ -10,14 +10,14 @@ use Rattle.site_journal.specs.declared.step.StepDeed.TheVariants.{Asked}
 use Rattle.status_report.specs.declared.asks.Answer.{Answer}
 use Rattle.status_report.specs.declared.asks.Ask.{Ask}
 
--- what is seen of a pass: its number, how many steps it has done, and how long the journal was when
--- it did the last
+-- what contracts see of a pass: its number, how many steps it has done, and the journal's length after
+-- its last one
 pub record PassState : Type 0 where
   pub ordinal : ℕ
   pub share : ℕ
   pub seen : ℕ
 
--- what is seen of a desk: how many passes it has
+-- what contracts see of a desk: its number of passes
 pub record DeskState : Type 0 where
   pub passes : ℕ
 
@@ -44,16 +44,16 @@ last_receipt pass deed = record { pass = pass.ordinal; position = pass.seen - 1;
 abbrev pub step_of : Receipt → Step
 step_of receipt = record { pass = receipt.pass; deed = receipt.deed }
 
--- a receipt is of the ask `ask`, with what was answered
+-- a receipt is of the ask `ask`, with its answer
 abbrev pub IsOfAsk : Ask → Receipt → Type 0
 IsOfAsk ask receipt = (answer : Answer) × (receipt.deed ≡ Asked ask answer)
 
--- a fault tells a length of the journal that is less than `pass` has seen
+-- a fault has a length of the journal that is less than `pass` has seen
 abbrev pub IsRewound : PassState → DeskFault → Type 0
 IsRewound pass (Rewound len) = len < pass.seen
 IsRewound pass other = ⊥
 
--- a fault tells no length of the journal, or one that is less than `pass` has seen
+-- a fault has no length of the journal, or one that is less than `pass` has seen
 abbrev pub TellsTruly : PassState → DeskFault → Type 0
 TellsTruly pass (Rewound len) = len < pass.seen
 TellsTruly pass other = ⊤

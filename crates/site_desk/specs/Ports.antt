@@ -1,4 +1,4 @@
--- What a desk's port does by the pass that it has borrowed (this project's own).
+-- What a desk's port does by the pass that it has borrowed.
 use Rattle.std.specs.Borrow.{MutBor}
 use Rattle.std.specs.List.{All}
 use Rattle.std.specs.Prelude.{ℕ, ◌≡◌, ◌≤◌, ◌+◌, List, [], ◌∷◌, length, Option}
@@ -23,8 +23,8 @@ pub record MakesByPass (site : ℕ) (names : List (List ℕ)) (old : MutBor Pass
   pub possible : IsPossibleSomewhere site names receipt.deed
   pub same : new.ghost_name ≡ old.ghost_name
 
--- the pass of a port is as it was, and the same borrow; `fault` tells no length of the journal, or
--- one that is less than the pass has seen
+-- the pass of a port is as it was, and the same borrow; `fault` has no length of the journal, or one that is less than the pass has
+-- seen
 pub record RefusesByPass (old : MutBor PassState) (fault : DeskFault) (new : MutBor PassState) : Type 0 where
   pub unchanged : new.now ≡ old.now
   pub told : TellsTruly old.now fault

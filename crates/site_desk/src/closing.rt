@@ -30,7 +30,7 @@ fn are_all<L: Ledger>(passes: &[Pass<L>], number: u32) -> bool
     true
 }
 
-// Joins the shares of all passes of a ledger, which are what its book has counted.
+// Joins the shares of all passes of a ledger. They make up everything that its book has counted.
 fn join_shares<L: Ledger>(book: Book<L>, passes: Vec<Pass<L>>)
     requires all { vec_len passes ≡ L.parts }
     requires some { 0 < vec_len passes }
@@ -48,9 +48,9 @@ fn join_shares<L: Ledger>(book: Book<L>, passes: Vec<Pass<L>>)
     book.audit(&mut share);
 }
 
-/// Gives up a desk with its passes, and answers the journal of its site, in which as many steps were done as the passes have counted together. It
-/// takes no memory. `WrongPasses`, with all handed back, exactly where the number of one of the desk's passes is missing or doubled
-/// (this project's own).
+/// Closes a desk with its passes, and returns the journal of its site. The steps that were done in it are as many as the passes
+/// have counted together. Takes no memory. `WrongPasses`, with everything returned to the caller, exactly where the number of one
+/// of the desk's passes is missing or doubled.
 pub fn close<L: SiteLedger>(
     desk: SiteDesk<L>,
     passes: Vec<Pass<L>>,
@@ -58,7 +58,7 @@ pub fn close<L: SiteLedger>(
     ensures count { IfOk result (λ journal. journal.count ≡ shares_of passes.items) }
     ensures site { IfOk result (λ journal. IsOfSite L.site L.names journal) }
     ensures limit { IfOk result (λ journal. journal.limit ≡ L.limit) }
-    // Where no step was dropped, the journal began from what that of the desk began from.
+    // If no step was dropped, the journal's base is the one that the desk's journal began from.
     ensures begun { IfOk result (λ journal.
         journal.start ≡ 0 → IsSameSite L.base journal.base) }
     ensures all { OnOk result (AreAll desk.passes passes.items) }

@@ -20,12 +20,12 @@ use std::marker::Model;
 use std::sync::ledger::Blank;
 use std::sync::{Mutex, Wait};
 
-/// How many passes a desk may have.
+/// The most passes that a desk may have.
 pub const MOST_PASSES: u32 = 256;
 
-/// A site that several threads call, one at a time, each by a pass of its own. Its journal lies under a lock, and is legal whenever the
-/// lock is free; so each receipt is of a step that is legal at its position. `L` names the ledger that counts the steps, so that a pass
-/// of another desk can't be handed in (this project's own).
+/// A site that several threads call, one at a time, each with a pass of its own. A lock guards the site's journal, which is legal
+/// whenever the lock is free; so each receipt is of a step that is legal at its position. `L` names the ledger that counts the
+/// steps, so that the type checker refuses a pass of another desk.
 #[derive(Drop)]
 pub struct SiteDesk<L: SiteLedger> {
     pub(crate) lock: Mutex<GuardedJournal<L>>,
@@ -44,8 +44,8 @@ impl<L: SiteLedger> Model for SiteDesk<L> {
 }
 
 impl<L: SiteLedger> SiteDesk<L> {
-    /// A desk over a journal of the ledger's site, without a step, and its passes, 1 to 256, with the numbers 0, 1 and so on. The
-    /// ledger is a new one, of as many parts. Where memory is wanting the journal comes back.
+    /// A desk over a journal of the ledger's site, without steps, and its passes, 1 to 256, with the numbers 0, 1 and so on. The
+    /// ledger is a new one, with as many parts as there are passes. When out of memory, returns the journal.
     pub fn new(
         alloc: Global,
         blank: Blank,
@@ -81,7 +81,7 @@ impl<L: SiteLedger> SiteDesk<L> {
         Ok((desk, all))
     }
 
-    /// The desk over a value that lay under the lock of a desk with as many passes.
+    /// Makes a desk again from the value under the lock of a desk with as many passes.
     pub fn over(guarded: GuardedJournal<L>, passes: u32) -> SiteDesk<L>
         requires parts { passes ≡ L.parts }
         requires some { 0 < passes }
@@ -93,7 +93,7 @@ impl<L: SiteLedger> SiteDesk<L> {
         }
     }
 
-    /// Gives up the desk for the value under its lock, and the number of its passes.
+    /// Takes the desk apart: the value under its lock, and the number of its passes.
     pub fn into_guarded(self) -> (GuardedJournal<L>, u32)
         ensures passes { result.1 ≡ self.passes }
         ensures parts { result.1 ≡ L.parts }
@@ -103,9 +103,9 @@ impl<L: SiteLedger> SiteDesk<L> {
         (lock.into_inner(), passes)
     }
 
-    /// Asks the site, and returns its answer. It waits until the lock is free. The ask is copied once, into the step. Faults, in order:
-    /// 1 `Rewound`, where the journal is shorter than the pass has seen; 2 `JournalFull`, where no step may be added; 3 `Memory`. A fault
-    /// leaves the pass as it was.
+    /// Asks the site, and returns its answer. Waits until the lock is free. The ask is copied once, into the step. Errors, in
+    /// order: 1 `Rewound`, if the journal is shorter than the pass has seen; 2 `JournalFull`, if no step may be added; 3 `Memory`.
+    /// A fault leaves the pass as it was.
     pub fn answer<R: Wait>(
         &self,
         rt: &R,
@@ -125,9 +125,9 @@ impl<L: SiteLedger> SiteDesk<L> {
         self.lock.lock(rt).answer(pass, asked)
     }
 
-    /// Asks the site, and answers the receipt of the step. It waits until the lock is free. Faults, in order: 1 `Rewound`, where the
-    /// journal is shorter than the pass has seen; 2 `JournalFull`, where no step may be added; 3 `Memory`. A fault leaves the pass as it
-    /// was.
+    /// Asks the site, and returns the receipt of the step. Waits until the lock is free. Errors, in order: 1 `Rewound`, if the
+    /// journal is shorter than the pass has seen; 2 `JournalFull`, if no step may be added; 3 `Memory`. A fault leaves the pass as
+    /// it was.
     pub fn call<R: Wait>(
         &self,
         rt: &R,
@@ -147,8 +147,8 @@ impl<L: SiteLedger> SiteDesk<L> {
         self.lock.lock(rt).call(pass, asked, copy)
     }
 
-    /// Asks the site as `call` does, and calls the gate once, with this number, while it holds the lock. A gate that doesn't return stops
-    /// every caller of its desk.
+    /// Asks the site as `call` does, and calls the gate once, with this number, while it holds the lock. A gate that doesn't return
+    /// blocks every caller of its desk.
     pub fn call_gated<R: Wait, G: Gate>(
         &self,
         rt: &R,
@@ -174,8 +174,9 @@ impl<L: SiteLedger> SiteDesk<L> {
         answered
     }
 
-    /// Puts the site's buffer into its next frame, if there is something in it. It waits as a call does. Faults, in order: 1 `Rewound`,
-    /// 2 `JournalFull`, as of a call; 3 `Exhausted`, where the site has made 2^40 frames; 4 `Memory`. A fault leaves the pass as it was.
+    /// Puts the site's buffer into its next frame, if the buffer isn't empty. Waits until the lock is free. Errors, in order: 1
+    /// `Rewound`, 2 `JournalFull`, as of a call; 3 `Exhausted`, if the site has made 2^40 frames; 4 `Memory`. A fault leaves the
+    /// pass as it was.
     pub fn cut<R: Wait>(&self, rt: &R, pass: &mut Pass<L>) -> Result<Receipt, DeskFault>
         ensures done { IfOk result (λ receipt. HasDone pass.old receipt pass.new) }
         ensures cut { IfOk result (λ receipt. IsOfCut receipt) }
@@ -190,7 +191,7 @@ impl<L: SiteLedger> SiteDesk<L> {
         self.lock.lock(rt).cut(pass)
     }
 
-    /// Puts all that the site knows into its next frame. It waits as a call does. Faults as of a cut.
+    /// Puts everything that the site knows into its next frame. Waits until the lock is free. Errors as of a cut.
     pub fn whole<R: Wait>(&self, rt: &R, pass: &mut Pass<L>) -> Result<Receipt, DeskFault>
         ensures done { IfOk result (λ receipt. HasDone pass.old receipt pass.new) }
         ensures whole { IfOk result (λ receipt. IsOfWhole receipt) }
@@ -205,11 +206,11 @@ impl<L: SiteLedger> SiteDesk<L> {
         self.lock.lock(rt).whole(pass)
     }
 
-    /// Lets the site take the frame that bytes spell; they come back where it doesn't. The frame is decoded first, and then it waits as a
-    /// call does, so that others wait only while the site joins it. Faults, in order: 1
-    /// `Rewound`, 2 `JournalFull`, as of a call; 3 `Decode`, with the fault of the bytes, or `BadRange` where more follows their frame; 4
-    /// `Take`, with the fault for which the site refuses the frame; 5 `Memory`, but never in place of a `Decode` that comes up to the
-    /// heading's end. A fault leaves the pass as it was.
+    /// Lets the site take the frame that the bytes encode. An error returns the bytes too. Decodes the frame first, and then waits
+    /// until the lock is free, so that other threads wait only while the site joins it. Errors, in order: 1 `Rewound`, 2
+    /// `JournalFull`, as of a call; 3 `Decode`, with the fault of the bytes, or `BadRange` if more bytes follow their frame; 4
+    /// `Take`, with the fault for which the site refuses the frame; 5 `Memory`, which never replaces a `Decode` whose fault is in
+    /// the heading. A fault leaves the pass as it was.
     pub fn take<R: Wait>(
         &self,
         rt: &R,
@@ -246,14 +247,14 @@ impl<L: SiteLedger> SiteDesk<L> {
         }
     }
 
-    /// Drops the steps of the journal: its base then says what the site says, and positions go on. It waits as a call does.
+    /// Drops the steps of the journal: the site's state becomes its base, and positions continue. Waits until the lock is free.
     /// Fails only when out of memory.
     pub fn checkpoint<R: Wait>(&self, rt: &R) -> Result<(), Memory> {
         self.lock.lock(rt).checkpoint()
     }
 
-    /// Drops the steps of the journal where they keep more than `bytes` bytes beside themselves. Returns whether it did. Fails only when
-    /// out of memory.
+    /// Drops the steps of the journal if their payload is more than `bytes` bytes. Returns whether it did. Fails only when out of
+    /// memory.
     pub fn checkpoint_above<R: Wait>(&self, rt: &R, bytes: u64) -> Result<bool, Memory> {
         self.lock.lock(rt).checkpoint_above(bytes)
     }

@@ -10,17 +10,17 @@ use crate::{Pass, SiteDesk, SiteLedger};
 use site_journal::{DecodeFault, DeskFault, Port, Receipt, TakeFault};
 use std::sync::Wait;
 
-/// A desk's port for one pass: it waits and answers as the desk does (this project's own).
+/// A desk's port for one pass: it waits and returns as the desk does.
 #[derive(Drop)]
 pub struct DeskPort<'a, L: SiteLedger> {
     desk: &'a SiteDesk<L>,
     pass: &'a mut Pass<L>,
-    // That of the last call, if it had one.
+    // The fault of the last call, if it had one.
     fault: Option<DeskFault>,
 }
 
 impl<'a, L: SiteLedger> DeskPort<'a, L> {
-    /// The port of a desk for this pass. It takes no memory.
+    /// The port of a desk for this pass. Takes no memory.
     pub fn new(desk: &'a SiteDesk<L>, pass: &'a mut Pass<L>) -> DeskPort<'a, L>
         ensures pass { lent_pass result ≡ pass.entry }
         ensures fault { last_fault result ≡ None }

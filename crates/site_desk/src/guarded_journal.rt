@@ -22,8 +22,7 @@ use status_report::{Answer, Ask};
 use std::marker::Model;
 use std::sync::ledger::{Book, Ledger};
 
-/// What lies under the lock of a desk: the site's journal, and the book in which its steps are counted. Contracts see it as the journal
-/// (this project's own).
+/// The value under the lock of a desk: the site's journal, and the book that counts its steps. Contracts see it as the journal.
 #[derive(Drop)]
 pub struct GuardedJournal<L: SiteLedger> {
     journal: Journaled,
@@ -43,7 +42,7 @@ impl<L: SiteLedger> Model for GuardedJournal<L> {
     ghost invariant = { λ g. IsGuarded L.site L.names L.limit L.base g.book.total g.journal };
 }
 
-// The receipt of a step that a pass has done at this position, which is counted.
+// Counts a step that a pass has done at this position, and returns its receipt.
 fn receipt_of<L: Ledger>(
     book: &mut Book<L>,
     pass: &mut Pass<L>,
@@ -66,7 +65,7 @@ fn receipt_of<L: Ledger>(
 }
 
 impl<L: SiteLedger> GuardedJournal<L> {
-    /// Puts a journal of the ledger's site, without a step, beside a book that has counted none.
+    /// A journal of the ledger's site, without steps, with a book that has counted none.
     pub fn open(journal: Journaled, book: Book<L>) -> GuardedJournal<L>
         requires begun { journal.count ≡ 0 }
         requires site { IsOfSite L.site L.names journal }
@@ -98,7 +97,7 @@ impl<L: SiteLedger> GuardedJournal<L> {
         (journal, book)
     }
 
-    // How long the journal is, unless the pass has seen a longer one.
+    // The journal's length, unless the pass has seen a longer one.
     fn len_for(&self, pass: &Pass<L>) -> Result<u64, DeskFault>
         ensures journal { IsJournal self.now }
         ensures site { IsOfSite L.site L.names self.now }
@@ -117,8 +116,8 @@ impl<L: SiteLedger> GuardedJournal<L> {
         Ok(len)
     }
 
-    /// The fault of a call that fails with `fault` wherever the journal lets it begin: 1 `Rewound`, exactly where the pass has seen a longer
-    /// journal; 2 `JournalFull`, where no step may be added; 3 this one.
+    /// The fault of a call that otherwise fails with `fault`. In order: 1 `Rewound`, exactly where the pass has seen a longer
+    /// journal; 2 `JournalFull`, if no step may be added; 3 `fault`.
     pub fn first_fault(&self, pass: &Pass<L>, fault: DeskFault) -> DeskFault
         ensures site { IsOfSite L.site L.names self.now }
         ensures reached { IsReached L.base self.now.count self.now.replica }
@@ -138,7 +137,8 @@ impl<L: SiteLedger> GuardedJournal<L> {
         }
     }
 
-    /// An answer for a pass. Faults, in order: 1 `Rewound`, exactly where the pass has seen a longer journal; then those of the journal.
+    /// Asks the site for a pass, and returns the answer. Errors, in order: 1 `Rewound`, exactly where the pass has seen a longer
+    /// journal; then those of the journal.
     pub fn answer(&mut self, pass: &mut Pass<L>, asked: &Ask) -> Result<Answer, DeskFault>
         ensures site { IsOfSite L.site L.names self.old }
         ensures reached { IsReached L.base self.old.count self.old.replica }
@@ -166,7 +166,8 @@ impl<L: SiteLedger> GuardedJournal<L> {
         Ok(answer)
     }
 
-    /// An ask for a pass, of which `copy` is a copy for the receipt, if there was memory for it. Faults as of an answer.
+    /// Asks the site for a pass, and returns the receipt. `copy` is a copy of the ask for the receipt, if there was memory for it.
+    /// Errors as of `answer`.
     pub fn call(
         &mut self,
         pass: &mut Pass<L>,
@@ -208,7 +209,7 @@ impl<L: SiteLedger> GuardedJournal<L> {
         }
     }
 
-    /// A cut for a pass. Faults, in order: 1 `Rewound`, as of a call; then those of the journal.
+    /// Cuts for a pass. Errors, in order: 1 `Rewound`, as of a call; then those of the journal.
     pub fn cut(&mut self, pass: &mut Pass<L>) -> Result<Receipt, DeskFault>
         ensures site { IsOfSite L.site L.names self.old }
         ensures reached { IsReached L.base self.old.count self.old.replica }
@@ -237,7 +238,7 @@ impl<L: SiteLedger> GuardedJournal<L> {
         Ok(receipt_of(book, pass, position, step))
     }
 
-    /// A frame of all for a pass. Faults, in order: 1 `Rewound`, as of a call; then those of the journal.
+    /// Makes a frame of everything for a pass. Errors, in order: 1 `Rewound`, as of a call; then those of the journal.
     pub fn whole(&mut self, pass: &mut Pass<L>) -> Result<Receipt, DeskFault>
         ensures site { IsOfSite L.site L.names self.old }
         ensures reached { IsReached L.base self.old.count self.old.replica }
@@ -265,7 +266,8 @@ impl<L: SiteLedger> GuardedJournal<L> {
         Ok(receipt_of(book, pass, position, step))
     }
 
-    /// A take of a decoded frame for a pass. Faults, in order: 1 `Rewound`, as of an answer; then those of the journal. The frame comes back.
+    /// Takes a decoded frame for a pass. An error returns the frame too. Errors, in order: 1 `Rewound`, as of an answer; then those
+    /// of the journal.
     pub fn take(
         &mut self,
         pass: &mut Pass<L>,
@@ -306,7 +308,7 @@ impl<L: SiteLedger> GuardedJournal<L> {
         Ok(receipt_of(book, pass, position, step))
     }
 
-    /// Drops the journal's steps, and no count. Fails only when out of memory.
+    /// Drops the journal's steps; the book keeps its count. Fails only when out of memory.
     pub fn checkpoint(&mut self) -> Result<(), Memory>
         ensures dropped { OnOk result (HasDropped self.old self.new) }
         ensures unchanged { OnErr result (self.new ≡ self.old) }
@@ -315,7 +317,8 @@ impl<L: SiteLedger> GuardedJournal<L> {
         journal.checkpoint()
     }
 
-    /// Drops the journal's steps where they keep more than `bytes` bytes. Returns whether it did. Fails only when out of memory.
+    /// Drops the journal's steps if their payload is more than `bytes` bytes. Returns whether it did. Fails only when out of
+    /// memory.
     pub fn checkpoint_above(&mut self, bytes: u64) -> Result<bool, Memory>
         ensures above { IfOk result (λ dropped. IsTrue dropped
             ↔ (bytes < min (kept_by_steps self.old.steps) (2 ^ 64 - 1))) }

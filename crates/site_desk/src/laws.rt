@@ -1,4 +1,4 @@
-//! What a desk's port promises whoever lends it a pass. The function has no body: its contract is the law.
+//! A law of a desk's port, for a caller that lends it a pass. The function has no body: its contract is the law.
 ghost use Rattle.std.specs.Prelude.{◌≡◌, List, Option, Some};
 ghost use Rattle.site_journal.specs.Ports.{PortWork};
 ghost use Rattle.site_journal.specs.declared.desk_fault.DeskFault.{DeskFault};
@@ -9,9 +9,9 @@ ghost use Rattle.site_desk.specs.declared.desk_port.DeskPort.{DeskPort};
 
 use crate::SiteLedger;
 
-/// Whatever a port does, be it stopped by a fault or not: its pass has done the steps of its receipts, and no other, each of them at
-/// some state of its site. It is the same borrow, so that this is known of the pass once the port is given up. The fault tells no length of the journal but one below what
-/// the pass then has seen (this project's own).
+/// After any calls of a port, whether or not a fault stopped it, its pass has done the steps of its receipts, and no other, each of
+/// them at some state of its site. The pass is the same borrow, so that its state is known after the port is dropped. A `Rewound`
+/// fault has a length of the journal below what the pass then has seen.
 pub fn a_port_works_by_its_pass<L: SiteLedger>()
     ensures works { (old new : DeskPort L) (receipts : List Receipt) (fault : Option DeskFault)
         → PortWork

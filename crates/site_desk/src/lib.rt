@@ -1,7 +1,7 @@
 //! A site under its lock, and the passes by which threads call it.
 //!
-//! Under the lock lies the site's journal, so its steps are legal whenever the lock is free. A call does one step, counts it for its pass
-//! and answers a receipt. When a desk is closed, its journal has as many steps as its passes have counted together.
+//! The lock guards the site's journal, so its steps are legal whenever the lock is free. A call does one step, counts it for its
+//! pass and returns a receipt. When a desk is closed, its journal has as many steps as its passes have counted together.
 #![tactic(auto)]
 
 mod close_fault;

@@ -5,8 +5,8 @@ ghost use Rattle.site_desk.specs.Passes.{new_pass, one_more};
 use std::marker::Model;
 use std::sync::ledger::{Book, Ledger, Share};
 
-/// The right of one caller to have steps done at a desk. It has a number, counts the steps that it has done, and knows how long the
-/// journal was when it did the last (this project's own).
+/// One caller's right to a desk's steps. It has a number, counts the steps that it has done, and holds the journal's length after
+/// its last one.
 #[derive(Drop)]
 pub struct Pass<L: Ledger> {
     ordinal: u32,
@@ -46,7 +46,7 @@ impl<L: Ledger> Pass<L> {
         self.ordinal
     }
 
-    /// How many steps the journal had when this pass did its last one; 0 where it has done none.
+    /// The number of steps of the journal after this pass did its last one; 0 if it has done none.
     pub fn seen(&self) -> u64
         ensures { result ≡ self.now.seen }
     {

@@ -1,8 +1,8 @@
 use std::marker::Brand;
 use std::sync::ledger::Ledger;
 
-/// Of which site a desk is: a name for its ledger that also stands for the site's number and its queues, and for what its journal began
-/// from. It has no bytes, and a call passes `Brand` for it (this project's own).
+/// The site of a desk: a name for its ledger that also stands for the site's number and its queues, and for the state that its
+/// journal began from. It has no bytes, and a call passes `Brand` for it.
 pub trait SiteLedger: Ledger {
     ghost use Rattle.std.specs.Prelude.{ℕ, List};
     ghost use Rattle.replica.specs.Site.{SiteState};
@@ -10,10 +10,10 @@ pub trait SiteLedger: Ledger {
     /// The site's number.
     ghost site: { ℕ };
 
-    /// The names of its queues, in their order.
+    /// The names of its queues, in order.
     ghost names: { List (List ℕ) };
 
-    /// How many steps may stand in its journal.
+    /// The most steps that its journal may hold.
     ghost limit: { ℕ };
 
     /// The state that its journal began from.

@@ -44,7 +44,7 @@ one_more j step new i l room = record {
 
 -- ---- asks
 
--- what is answered, and isn't that memory is wanting, is an ask at the state before
+-- an answer other than out of memory is one to its ask at the state before
 pub answered : (old new : SiteState) (asked : Ask) (answer : Answer) → AnswersCommand old asked new answer → AnswersStatus old asked answer → KeepsAtStatus old asked new
     → (answer ≡ Refused Memory → ⊥) → IsAsked old asked answer new
 answered old new (asked_command command) answer h s keeps other = (h.0, h.1, (λ e. other (h.1 ∙ ap answer_of e)), h.2)

@@ -38,7 +38,7 @@ use Rattle.site_journal.specs.Replaying.{IsAgain}
 
 -- ---- one deed does what another did
 
--- a command that memory wasn't wanting for follows what it means
+-- a command that doesn't run out of memory follows its meaning
 follows : (old : SiteState) (meant : Meaning) (new : SiteState) (result : Result (Unit {0}) Refusal) → result ≢ Err Memory → IsDone old meant new result → Follows old meant new result
 follows old meant new result some (inl f) = f
 follows old meant new result some (inr wanting) = absurd (some wanting.1)

@@ -33,7 +33,7 @@ none_by : (b : Bool) (pass : ℕ) (step : Step) (steps : List Step) (r : Receipt
 none_by true pass step steps r rest is none more = let e : suc (length rest) ≡ 0 = ap length none in absurd (omega arith)
 none_by false pass step steps r rest is none more = All-cons (IsNotOf pass) step steps (eqb-false step.pass pass is) (more none)
 
--- and where they give it none, none of them is
+-- if steps give a pass no receipt, none of them is of the pass
 pub of_none : (pass position : ℕ) (steps : List Step) → receipts_of pass position steps ≡ [] → All (IsNotOf pass) steps
 of_none pass position [] none = All-nil (IsNotOf pass)
 of_none pass position (step ∷ steps) none =
@@ -99,7 +99,7 @@ less from pass least steps step is high low h = (
 
 -- ---- lists
 
--- so many lists are those of their passes
+-- the first `count` lists are those of their passes
 abbrev pub AreRight : List Step → List (List Receipt) → ℕ → Type 0
 AreRight steps lists count = (earlier : ℕ) → earlier < count → list_of lists earlier ≡ receipts_of earlier 0 steps
 

@@ -23,8 +23,8 @@ use Rattle.site_journal.specs.declared.step.StepDeed.{StepDeed}
 use Rattle.site_journal.specs.declared.step.StepDeed.TheVariants.{Asked, Cut, Whole}
 use Rattle.site_journal.specs.Legal.{IsAsked, LeadAll, Leads}
 
--- what is seen of a journal: the replica that it began from, the steps since, how many steps were
--- before, how many there were in all, how many may stand in it, and the replica now
+-- what contracts see of a journal: the replica that it began from, the steps since, the number of steps before the base, the
+-- number in all, the most that it may hold, and the replica now
 pub record JournalState : Type 0 where
   pub base : SiteState
   pub steps : List Step
@@ -42,8 +42,8 @@ journal_code =
     (λ p. record { base = p.0; steps = p.1.0; start = p.1.1.0; count = p.1.1.1.0; limit = p.1.1.1.1.0; replica = p.1.1.1.1.1 })
     (λ _. refl)
 
--- what holds of every journal `j`: its steps lead from its base to its replica and are counted, at
--- most 2^40 in all, and at most `limit` of them, which is 1 to MOST_STEPS, stand in it
+-- the invariant of a journal `j`: its steps lead from its base to its replica and are counted, at most 2^40 in all, and it
+-- holds at most `limit` of them, which is 1 to MOST_STEPS
 pub record IsJournal (j : JournalState) : Type 0 where
   pub legal : LeadAll j.base j.steps j.replica
   pub counted : j.count ≡ j.start + length j.steps
@@ -52,8 +52,7 @@ pub record IsJournal (j : JournalState) : Type 0 where
   pub some : 1 ≤ j.limit
   pub few : j.limit ≤ MOST_STEPS
 
--- journal `j` has just begun from `replica`, with no step and this `limit`; its base says what the
--- replica says
+-- journal `j` has just begun from `replica`, without steps and with this `limit`; its base says what the replica says
 pub record IsNewJournal (replica : SiteState) (limit : ℕ) (j : JournalState) : Type 0 where
   pub base : IsSameSite replica j.base
   pub steps : j.steps ≡ []
@@ -69,7 +68,7 @@ pub record IsOfSite (site : ℕ) (names : List (List ℕ)) (j : JournalState) : 
   pub site_is : j.replica.site ≡ site
   pub names_are : j.replica.names ≡ names
 
--- no step may be added to journal `j`: as many stand in it as may, or 2^40 were done in all
+-- no step may be added to journal `j`: it holds its limit of steps, or 2^40 were done in all
 abbrev pub IsFull : JournalState → Type 0
 IsFull j = (j.limit ≤ length j.steps) ⊎ (j.count ≡ MOST_COUNT)
 
@@ -102,8 +101,7 @@ pub record HasDropped (old new : JournalState) : Type 0 where
   pub limit : new.limit ≡ old.limit
   pub replica : new.replica ≡ old.replica
 
--- a deed is the ask `asked` with what the site answered to it in state `old`, which isn't want of
--- memory and led it to `new`
+-- a deed is the ask `asked` with the site's answer to it in state `old`, which isn't out of memory and led it to `new`
 abbrev pub IsAnswerTo : SiteState → Ask → SiteState → StepDeed → Type 0
 IsAnswerTo old asked new (Asked told answer) = (told ≡ asked) × IsAsked old asked answer new
 IsAnswerTo old asked new other = ⊥
@@ -118,8 +116,8 @@ abbrev pub IsStepOfWhole : StepDeed → Type 0
 IsStepOfWhole (Whole bytes) = ⊤
 IsStepOfWhole other = ⊥
 
--- a take may be refused for this cause: the journal is full, the bytes are no frame, the site
--- refuses the frame, or memory was wanting
+-- a take may be refused for this cause: the journal is full, the bytes are no frame, the site refuses the frame, or out of
+-- memory
 abbrev pub RefusesTake : DeskFault → Type 0
 RefusesTake desk_fault.JournalFull = ⊤
 RefusesTake (desk_fault.Decode fault) = fault ≢ decode_fault.Memory
@@ -129,24 +127,23 @@ RefusesTake desk_fault.Exhausted = ⊥
 RefusesTake desk_fault.Unsaved = ⊥
 RefusesTake (desk_fault.Rewound len) = ⊥
 
--- a call was refused for the cause `fault`, and what was handed in came back
+-- a call was refused for the cause `fault`, and returned its argument
 abbrev pub IsRefusedFor : {A B : Type 0} → Result A (DeskFault × B) → DeskFault → Type 0
 IsRefusedFor (Ok x) fault = ⊥
 IsRefusedFor (Err refused) fault = refused.0 ≡ fault
 
--- a frame stands at the front of `bytes`, and more bytes behind it
+-- `bytes` begin with a frame, and more bytes follow it
 pub record HasMore (bytes : List ℕ) : Type 0 where
   pub frame : Frame
   pub len : ℕ
   pub spelled : Spells frame (take len bytes)
   pub more : len < length bytes
 
--- `bytes` have `fault` as one whole frame: it is their own as a frame, or it is `BadRange` and more
--- follows their frame
+-- `bytes` have `fault` as one whole frame: it is their own as a frame, or it is `BadRange` and more bytes follow their frame
 abbrev pub HasFaultAlone : List ℕ → DecodeFault → Type 0
 HasFaultAlone bytes fault = HasFault bytes fault ⊎ ((fault ≡ BadRange) × HasMore bytes)
 
--- `bytes` spell a frame that a site in state `s` refuses for the cause `fault`, the first that stands
+-- `bytes` spell a frame that a site in state `s` refuses for the cause `fault`, the first that applies
 pub record IsRefusedFrame (s : SiteState) (bytes : List ℕ) (fault : TakeFault) : Type 0 where
   pub frame : Frame
   pub spelled : Spells frame bytes

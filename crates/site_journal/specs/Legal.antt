@@ -1,4 +1,4 @@
--- Legal journals: steps that lead from one state of a site to another, each by its meaning there (this project's own).
+-- Legal journals: steps that lead from one state of a site to another, each by its meaning there.
 use Rattle.std.specs.Prelude.{◌≡◌, ◌≢◌, List, [], ◌∷◌, ℕ, Some, None, Result, Err}
 use Rattle.delta.specs.DeltaStates.{IsEmpty}
 use Rattle.delta.specs.declared.frame.Frame.{Frame}
@@ -20,8 +20,8 @@ use Rattle.site_journal.specs.declared.step.Step.{Step}
 use Rattle.site_journal.specs.declared.step.StepDeed.{StepDeed}
 use Rattle.site_journal.specs.declared.step.StepDeed.TheVariants.{Asked, Took, Cut, Whole}
 
--- an ask was answered, which led a site from state `old` to `new`: a command by what it means
--- there, and never for want of memory; a status by its report, which changes nothing
+-- an answer to an ask led a site from state `old` to `new`: a command by its meaning there, and never refused as out of memory; a
+-- status by its report, which changes nothing
 abbrev pub IsAsked : SiteState → Ask → Answer → SiteState → Type 0
 IsAsked old (asked_command command) answer new =
     (result : Result (Unit {0}) Refusal) × (answer ≡ answer_of result) × (result ≢ Err Memory) × IsDone old (meaning_at old (change_of command)) new result

@@ -1,17 +1,15 @@
--- What ports do, call by call (this project's own).
+-- The effects of ports, call by call.
 use Rattle.std.specs.Prelude.{◌≡◌, ◌⊎◌, List, [], ◌∷◌, Option, Some, None}
 use Rattle.site_journal.specs.declared.desk_fault.DeskFault.{DeskFault}
 use Rattle.site_journal.specs.declared.desk_fault.DeskFault.TheVariants.{Memory}
 use Rattle.site_journal.specs.declared.receipt.Receipt.{Receipt}
 
--- a port whose calls do what `Makes` says comes from state `p` to `q` by calls that answer these
--- receipts, one after another
+-- a port whose calls have the effect `Makes` goes from state `p` to `q` by calls that return these receipts in order
 abbrev pub PortRun : {P : Type 0} → (P → Receipt → P → Type 0) → P → List Receipt → P → Type 0
 PortRun Makes p [] q = p ≡ q
 PortRun {P = P} Makes p (receipt ∷ receipts) q = (next : P) × Makes p receipt next × PortRun Makes next receipts q
 
--- a port refuses a call for the fault `fault`, which leads it from state `p` to `q`; or it isn't
--- called, and the fault is want of memory
+-- a port refuses a call for the fault `fault`, which leads it from state `p` to `q`; or the call isn't made, as out of memory
 abbrev pub PortStop : {P : Type 0} → (P → DeskFault → P → Type 0) → P → DeskFault → P → Type 0
 PortStop Refuses p fault q = Refuses p fault q ⊎ ((fault ≡ Memory) × (p ≡ q))
 

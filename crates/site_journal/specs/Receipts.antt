@@ -1,4 +1,4 @@
--- What receipts say of what was done.
+-- Which deeds receipts are of.
 use Rattle.std.specs.Prelude.{ℕ, ◌≡◌, List, Option}
 use Rattle.site_journal.specs.declared.receipt.Receipt.{Receipt}
 use Rattle.site_journal.specs.declared.step.StepDeed.TheVariants.{Took, Cut, Whole}

@@ -1,4 +1,4 @@
--- A stored step that a journal does again: when it can come next, and how it fails.
+-- A stored step that a journal does again: when it can be next, and how it fails.
 use Rattle.std.specs.Prelude.{ℕ, ⊤, ◌≡◌}
 use Rattle.replica.specs.Site.{SiteState}
 use Rattle.site_journal.specs.declared.desk_fault.DeskFault.{DeskFault}
@@ -11,7 +11,7 @@ use Rattle.site_journal.specs.declared.step.StepDeed.TheVariants.{Asked, Took, C
 use Rattle.site_journal.specs.Journals.{JournalState}
 use Rattle.site_journal.specs.Legal.{Leads}
 
--- a step can come next in a journal: it leads the replica to some state
+-- a step can be next in a journal: it leads the replica to some state
 pub record CanCome (j : JournalState) (step : Step) : Type 0 where
   pub to : SiteState
   pub leads : Leads j.replica step.deed to
@@ -24,7 +24,7 @@ IsAgain (Cut bytes) (Cut other) = ⊤
 IsAgain (Whole bytes) (Whole other) = ⊤
 IsAgain deed other = ⊥
 
--- why the step of a position was not done again, by the fault of the journal
+-- the fault of a replay for the fault of the journal, at a position
 abbrev pub replay_fault_of : ℕ → DeskFault → ReplayFault
 replay_fault_of position desk_fault.JournalFull = JournalFull
 replay_fault_of position desk_fault.Memory = Memory

@@ -1,4 +1,4 @@
--- Which receipts settle a journal (this project's own).
+-- Which receipts settle a journal.
 use Rattle.std.specs.List.{All, Any}
 use Rattle.std.specs.Prelude.{ℕ, suc, ◌≡◌, ◌≢◌, ◌<◌, ◌≤◌, ◌⊎◌, ◌==◌, if◌then◌else◌, List, [], ◌∷◌, Option, Some, None, slice_index_or}
 use Rattle.site_journal.specs.declared.receipt.Receipt.{Receipt}
@@ -6,8 +6,8 @@ use Rattle.site_journal.specs.declared.settle_fault.SettleFault.{SettleFault}
 use Rattle.site_journal.specs.declared.settle_fault.SettleFault.TheVariants.{Checkpointed, Differs}
 use Rattle.site_journal.specs.declared.step.Step.{Step}
 
--- the receipts of the steps that the pass of the number `pass` has done, in their order, where the
--- first of all steps stands at `position`
+-- the receipts of the steps that the pass of the number `pass` has done, in order, where the first of all steps stands at
+-- `position`
 abbrev pub receipts_of : ℕ → ℕ → List Step → List Receipt
 receipts_of pass position [] = []
 receipts_of pass position (step ∷ steps) =
@@ -18,7 +18,7 @@ receipts_of pass position (step ∷ steps) =
 abbrev pub list_of : List (List Receipt) → ℕ → List Receipt
 list_of lists pass = slice_index_or lists pass []
 
--- in `lists` each pass has the receipts of its steps, in their order, and no other
+-- in `lists` each pass has the receipts of its steps, in order, and no other
 abbrev pub AreSettled : List Step → List (List Receipt) → Type 0
 AreSettled steps lists = (pass : ℕ) → list_of lists pass ≡ receipts_of pass 0 steps
 
@@ -34,8 +34,7 @@ abbrev pub IsUnsettled : SettleFault → ℕ → List Step → List (List Receip
 IsUnsettled Checkpointed start steps lists = start ≢ 0
 IsUnsettled (Differs pass) start steps lists = (start ≡ 0) × IsFirstThatDiffers steps lists pass
 
--- the number that is given is the least pass of `steps` that isn't below `from`; where none is
--- given, all are below it
+-- the given number is the least pass of `steps` that isn't below `from`; if none is given, all passes are below it
 abbrev pub IsLeastPass : ℕ → List Step → Option ℕ → Type 0
 IsLeastPass from steps None = All (λ (step : Step). step.pass < from) steps
 IsLeastPass from steps (Some pass) = (from ≤ pass) × Any (λ (step : Step). step.pass ≡ pass) steps × All (λ (step : Step). (step.pass < from) ⊎ (pass ≤ step.pass)) steps

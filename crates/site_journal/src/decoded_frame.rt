@@ -11,13 +11,13 @@ use replica::{Frame, TakeFault};
 use std::alloc::Global;
 use std::marker::Model;
 
-/// The bytes of one frame, with the frame that they spell. Whoever shares a site decodes a frame into it first, and holds up the others
-/// only while the site takes it. Contracts see its bytes (this project's own).
+/// The bytes of one frame, with the decoded frame. A caller that shares a site with others decodes a frame first, so that the
+/// others wait only while the site takes it. Contracts see its bytes (this project's own).
 #[derive(Drop)]
 pub struct DecodedFrame {
     pub(crate) frame: Frame,
     pub(crate) bytes: Bytes,
-    // The same bytes once more, for the copy of the step.
+    // A second copy of the same bytes, for the copy of the step.
     pub(crate) copy: Bytes,
 }
 
@@ -32,7 +32,7 @@ impl Model for DecodedFrame {
     ghost invariant = { λ d. Spells d.frame d.bytes × (d.copy ≡ d.bytes) };
 }
 
-// The frame that bytes are, with nothing behind it.
+// Decodes bytes that are exactly one frame.
 fn frame_in(alloc: Global, bytes: &[u8]) -> Result<Frame, DecodeFault>
     ensures value { IfOk result (λ frame. Spells frame bytes.now) }
     ensures fault { IfErr result (λ fault. (fault ≡ DecodeFault.Memory)
@@ -47,7 +47,7 @@ fn frame_in(alloc: Global, bytes: &[u8]) -> Result<Frame, DecodeFault>
     Ok(frame)
 }
 
-// Why bytes are no frame, as the fault of a step.
+// The fault of a step for bytes that are no frame.
 fn decode_fault(fault: DecodeFault) -> DeskFault
     ensures decode { (told : DecodeFault) → result ≡ DeskFault.Decode told
         → (fault ≡ told) × (fault ≢ DecodeFault.Memory) }
@@ -63,10 +63,9 @@ fn decode_fault(fault: DecodeFault) -> DeskFault
 }
 
 impl DecodedFrame {
-    /// Decodes the bytes of one frame, in either version, and copies them, for the copy of the step that takes it. The bytes come back
-    /// where it fails. Errors, in order: 1 `Decode`, with the fault of the bytes, or `BadRange` where more follows their frame;
-    /// 2 `Memory`, which may also stand in place of a `Decode` whose fault stands behind a whole heading, but never of one that comes up
-    /// to there.
+    /// Decodes the bytes of one frame, in either version, and copies them, for the copy of the step that takes it. An error returns
+    /// the bytes too. Errors, in order: 1 `Decode`, with the fault of the bytes, or `BadRange` if more bytes follow their frame; 2
+    /// `Memory`, which may replace a `Decode` whose fault is after a whole heading, but never one whose fault is in the heading.
     pub fn decode(alloc: Global, bytes: Vec<u8>) -> Result<DecodedFrame, (DeskFault, Vec<u8>)>
         ensures value { IfOk result (λ decoded. decoded ≡ bytes.items) }
         ensures decode { (fault : DecodeFault) → IsRefusedFor result (DeskFault.Decode fault)
@@ -89,7 +88,7 @@ impl DecodedFrame {
         Ok(DecodedFrame { frame, bytes, copy })
     }
 
-    /// Gives the bytes back, which begin as those of a frame. It takes no memory.
+    /// Returns the bytes, which begin as those of a frame. Takes no memory.
     pub fn into_bytes(self) -> Vec<u8>
         ensures value { result.items ≡ self }
         ensures opening { HasOpening self }

@@ -3,17 +3,17 @@ use dots::Memory;
 use replica::TakeFault;
 use thiserror::Error;
 
-/// Why a call of a desk answers no receipt. Only after `Unsaved`, and after `Memory` of a desk with a store, the step may have been
-/// done; every other fault leaves the steps, and what the site says, as they were (this project's own).
+/// Why a call of a desk returns no receipt. Only after `Unsaved`, and after `Memory` of a desk with a store, the step may have been
+/// done; every other fault leaves the steps, and what the site says, as they were.
 #[derive(Clone, Copy, Debug, PartialEq, Eq, Error)]
 pub enum DeskFault {
-    /// The journal is shorter than its caller has seen; this is how long it is. A desk alone answers so.
+    /// The journal is shorter than its caller has seen; this is its length. Only a desk returns this fault.
     #[error("the journal has only {0} steps")]
     Rewound(u64),
-    /// The journal has as many steps as it may, or 2^40 were done in all.
+    /// The journal holds its limit of steps, or 2^40 were done in all.
     #[error("journal full")]
     JournalFull,
-    /// The bytes are no frame, or more follows it.
+    /// The bytes are no frame, or more bytes follow it.
     #[error(transparent)]
     Decode(DecodeFault),
     /// The site refuses the frame, for this cause.
@@ -22,7 +22,7 @@ pub enum DeskFault {
     /// The site has made 2^40 frames.
     #[error("numbers used up")]
     Exhausted,
-    /// A commit of the site's store has failed, so the step isn't durable. A desk with a store alone answers so.
+    /// A commit of the site's store has failed, so the step isn't durable. Only a desk with a store returns this fault.
     #[error("not saved")]
     Unsaved,
     /// An allocation was refused.

@@ -24,10 +24,10 @@ use std::alloc::Global;
 use std::marker::Model;
 use std::mem;
 
-/// How many steps may stand in a journal at most.
+/// The most steps that a journal may hold.
 pub const MOST_STEPS: u32 = 1_000_000;
 
-// Asks a site, and returns its answer twice. Fails only when out of memory, also where the site answers so.
+// Asks a site, and returns its answer twice. Fails only when out of memory, also if the site's answer is that it is out of memory.
 fn ask_twice(alloc: Global, replica: &mut Replica, asked: &Ask) -> Result<(Answer, Answer), Memory>
     ensures same { IfOk result (λ both. both.1 ≡ both.0) }
     ensures asked { IfOk result (λ both. IsAsked replica.old asked.now both.0 replica.new) }
@@ -58,7 +58,7 @@ fn spelled(
     Ok((bytes, other))
 }
 
-// Cuts the buffer of a site that has a number left, and answers the frame's bytes twice, which are made before anything changes.
+// Cuts the buffer of a site that has a number left, and returns the frame's bytes twice. Both are made before anything changes.
 fn cut_twice(alloc: Global, replica: &mut Replica) -> Result<(Option<Bytes>, Option<Bytes>), Memory>
     requires { (IsEmpty replica.old.pending → ⊥) → replica.old.frames < MOST_COUNT }
     ensures same { IfOk result (λ both. both.1 ≡ both.0) }
@@ -79,8 +79,8 @@ fn cut_twice(alloc: Global, replica: &mut Replica) -> Result<(Option<Bytes>, Opt
     }
 }
 
-// Makes a frame of all that a site knows, which has a number left, and returns its bytes twice. They are written from the state itself,
-// before the number is used up.
+// Makes a frame of everything that a site knows, and returns its bytes twice. The site has a number left. The bytes are written
+// from the state itself, before the number is used up.
 fn whole_twice(alloc: Global, replica: &mut Replica) -> Result<(Bytes, Bytes), Memory>
     requires { replica.old.frames < MOST_COUNT }
     ensures same { IfOk result (λ both. both.1 ≡ both.0) }
@@ -95,7 +95,7 @@ fn whole_twice(alloc: Global, replica: &mut Replica) -> Result<(Bytes, Bytes), M
     }
 }
 
-// Why a frame is refused, as the fault of a step.
+// The fault of a step for a take that fails.
 fn take_fault(fault: TakeFault) -> DeskFault
     ensures take { (told : TakeFault) → result ≡ DeskFault.Take told → fault ≡ told }
     ensures only { RefusesTake result }
@@ -108,9 +108,9 @@ fn take_fault(fault: TakeFault) -> DeskFault
     }
 }
 
-/// What a site did: the replica that its journal began from, the steps since with what came of each, and the replica. The steps lead
-/// from the one to the other, each by its meaning there; at most its limit of them stand in it, and 2^40 are done in all (this
-/// project's own).
+/// The journal of a site: the replica that the journal began from (the base), the steps since with the result of each, and the
+/// replica. The steps lead from the base to the replica, each by its meaning at its state. A journal holds at most its limit of
+/// steps, and 2^40 are done in all.
 #[derive(Drop)]
 pub struct Journaled {
     base: Replica,
@@ -150,8 +150,8 @@ impl Model for Journaled {
 }
 
 impl Journaled {
-    /// A journal of a replica, without a step, in which at most `limit` steps may stand, 1 to 1,000,000. Where memory is wanting the
-    /// replica comes back.
+    /// A journal of a replica, without steps. It holds at most `limit` steps, 1 to 1,000,000. When out of memory, returns the
+    /// replica.
     pub fn new(alloc: Global, replica: Replica, limit: u32) -> Result<Journaled, (Memory, Replica)>
         requires some { 1 ≤ limit }
         requires most { limit ≤ MOST_STEPS }
@@ -172,8 +172,7 @@ impl Journaled {
         }
     }
 
-    /// The position of the next step: how many steps were before the base and how many stand here, at most 2^40. It takes no memory,
-    /// like all that only reads.
+    /// The position of the next step: the number of steps before the base and of those held here, at most 2^40. Takes no memory.
     pub fn len(&self) -> u64
         ensures value { result ≡ self.now.start + length self.now.steps }
         ensures count { result ≡ self.now.count }
@@ -199,7 +198,7 @@ impl Journaled {
         self.start
     }
 
-    /// The steps since the base, in their order.
+    /// The steps since the base, in order.
     pub fn steps(&self) -> &[Step]
         ensures { result.now ≡ self.now.steps }
     {
@@ -221,25 +220,27 @@ impl Journaled {
         &self.replica
     }
 
-    /// How many bytes its steps keep beside themselves, 2^64 - 1 at most: the ActionID and the report of each status, and the frames. A
-    /// report of megabytes that is asked for a thousand times keeps gigabytes, until a checkpoint drops the steps. The number is counted as
-    /// steps come and go, so no call walks over them.
+    /// The payload of its steps in bytes, 2^64 - 1 at most: the ActionID and the report of each status, and the frames. A thousand
+    /// statuses with reports of megabytes hold gigabytes, until a checkpoint drops the steps. The number is updated with each step,
+    /// so no call walks over them.
     pub fn payload_bytes(&self) -> u64
         ensures { result ≡ min (kept_by_steps self.now.steps) (2 ^ 64 - 1) }
     {
         self.steps.payload_bytes
     }
 
-    /// Whether no step may be added: as many stand here as may, or 2^40 were done in all.
+    /// Whether no step may be added: the journal holds its limit of steps, or 2^40 were done in all.
     pub fn is_full(&self) -> bool
         ensures { IsTrue result ↔ IsFull self.now }
     {
         self.steps.steps.len() >= self.limit as usize || self.count == MOST_COUNT
     }
 
-    /// Asks the site, by the pass of this number, and returns a copy of its answer. The ask is copied once, into the step. Faults, in
-    /// order: 1 `JournalFull`, exactly where as many steps stand here as may, or 2^40 were done in all; 2 `Memory`, also where the site
-    /// answers so. A command that is refused for another cause is a step.
+    /// Asks the site, by the pass of this number, and returns a copy of its answer. The ask is copied once, into the step. A
+    /// command that the site refuses is a step, except when it is out of memory.
+    ///
+    /// Errors, in order: 1 `JournalFull`, exactly where the journal holds its limit of steps, or 2^40 were done in all; 2 `Memory`,
+    /// also if the site's answer is that it is out of memory.
     pub fn answer(&mut self, pass: u32, asked: &Ask) -> Result<Answer, DeskFault>
         ensures added { IfOk result (λ answer. HasAdded self.old
             (record { pass = pass; deed = StepDeed.Asked asked.now answer }) self.new) }
@@ -271,8 +272,8 @@ impl Journaled {
         Ok(given)
     }
 
-    /// Asks the site, by the pass of this number, and returns a copy of the step, for which the ask is copied once more. Faults as of
-    /// `answer`.
+    /// Asks the site, by the pass of this number, and returns a copy of the step, for which the ask is copied a second time. Errors
+    /// as of `answer`.
     pub fn call(&mut self, pass: u32, asked: &Ask) -> Result<Step, DeskFault>
         ensures added { IfOk result (λ step. HasAdded self.old step self.new) }
         ensures pass { IfOk result (λ step. step.pass ≡ pass) }
@@ -301,9 +302,9 @@ impl Journaled {
         }
     }
 
-    /// Puts the site's buffer into its next frame, if there is something in it, by the pass of this number, and answers a copy of the
-    /// step. Faults, in order: 1 `JournalFull`, exactly where as many steps stand here as may, or 2^40 were done in all; 2 `Exhausted`,
-    /// exactly where the buffer isn't empty and the site has made 2^40 frames; 3 `Memory`.
+    /// Puts the site's buffer into its next frame, if the buffer isn't empty, by the pass of this number, and returns a copy of the
+    /// step. Errors, in order: 1 `JournalFull`, exactly where the journal holds its limit of steps, or 2^40 were done in all; 2
+    /// `Exhausted`, exactly where the buffer isn't empty and the site has made 2^40 frames; 3 `Memory`.
     pub fn cut(&mut self, pass: u32) -> Result<Step, DeskFault>
         ensures added { IfOk result (λ step. HasAdded self.old step self.new) }
         ensures pass { IfOk result (λ step. step.pass ≡ pass) }
@@ -339,9 +340,9 @@ impl Journaled {
         })
     }
 
-    /// Puts all that the site knows into its next frame, by the pass of this number, and answers a copy of the step. Faults, in order:
-    /// 1 `JournalFull`, exactly where as many steps stand here as may, or 2^40 were done in all; 2 `Exhausted`, exactly where the
-    /// site has made 2^40 frames; 3 `Memory`.
+    /// Puts everything that the site knows into its next frame, by the pass of this number, and returns a copy of the step. Errors,
+    /// in order: 1 `JournalFull`, exactly where the journal holds its limit of steps, or 2^40 were done in all; 2 `Exhausted`,
+    /// exactly where the site has made 2^40 frames; 3 `Memory`.
     pub fn whole(&mut self, pass: u32) -> Result<Step, DeskFault>
         ensures added { IfOk result (λ step. HasAdded self.old step self.new) }
         ensures pass { IfOk result (λ step. step.pass ≡ pass) }
@@ -376,11 +377,13 @@ impl Journaled {
         })
     }
 
-    /// Lets the site take the frame that bytes spell, in either version, by the pass of this number, and answers a copy of the step. The bytes come back
-    /// where it doesn't. Faults, in order: 1 `JournalFull`, exactly where as many steps stand here as may, or 2^40 were done in all;
-    /// 2 `Decode`, with the fault of the bytes, or `BadRange` where more follows their frame; 3 `Take`, with the fault for which the
-    /// site refuses the frame; 4 `Memory`, which may also stand in place of `Take`, and of a `Decode` whose fault stands behind a
-    /// whole heading, but never of one that comes up to there.
+    /// Lets the site take the frame that the bytes encode, in either version, by the pass of this number, and returns a copy of the
+    /// step. Each error returns the bytes too.
+    ///
+    /// Errors, in order: 1 `JournalFull`, exactly where the journal holds its limit of steps, or 2^40 were done in all; 2 `Decode`,
+    /// with the fault of the bytes, or `BadRange` if more bytes follow their frame; 3 `Take`, with the fault for which the site
+    /// refuses the frame; 4 `Memory`. `Memory` may replace `Take`, and a `Decode` whose fault is after a whole heading, but never a
+    /// `Decode` whose fault is in the heading.
     pub fn take(&mut self, pass: u32, bytes: Vec<u8>) -> Result<Step, (DeskFault, Vec<u8>)>
         ensures added { IfOk result (λ step. HasAdded self.old step self.new) }
         ensures pass { IfOk result (λ step. step.pass ≡ pass) }
@@ -408,9 +411,9 @@ impl Journaled {
         }
     }
 
-    /// Lets the site take a decoded frame, by the pass of this number, and returns a copy of the step. The frame comes back where it
-    /// doesn't. Faults, in order: 1 `JournalFull`, exactly where as many steps stand here as may, or 2^40 were done in all; 2 `Take`, with
-    /// the fault for which the site refuses the frame; 3 `Memory`, which may also stand in place of `Take`.
+    /// Lets the site take a decoded frame, by the pass of this number, and returns a copy of the step. Each error returns the frame
+    /// too. Errors, in order: 1 `JournalFull`, exactly where the journal holds its limit of steps, or 2^40 were done in all; 2
+    /// `Take`, with the fault for which the site refuses the frame; 3 `Memory`, which may replace `Take`.
     pub fn take_decoded(
         &mut self,
         pass: u32,
@@ -449,7 +452,7 @@ impl Journaled {
         })
     }
 
-    /// Drops the steps: the base says what the replica says then. The one fault is want of memory, and it changes nothing.
+    /// Drops the steps: the replica's state becomes the base. Fails only when out of memory, and then changes nothing.
     pub fn checkpoint(&mut self) -> Result<(), Memory>
         ensures journal { IsJournal self.old }
         ensures dropped { OnOk result (HasDropped self.old self.new) }

@@ -1,11 +1,11 @@
-//! How many bytes a deed keeps beside itself.
+//! The payload of a deed in bytes.
 ghost use Rattle.std.specs.Prelude.{◌≡◌, ◌-◌, ◌^◌, min};
 ghost use Rattle.site_journal.specs.Keeping.{kept_by, kept_by_answer, kept_by_ask};
 
 use crate::StepDeed;
 use status_report::{Answer, Ask};
 
-// How many bytes an ask keeps beside itself: those of a status's ActionID.
+// The payload of an ask in bytes: a status's ActionID.
 fn kept_by_ask(asked: &Ask) -> usize
     ensures { result ≡ kept_by_ask asked.now }
 {
@@ -15,7 +15,7 @@ fn kept_by_ask(asked: &Ask) -> usize
     }
 }
 
-// How many bytes an answer keeps beside itself: those of a report.
+// The payload of an answer in bytes: its report.
 fn kept_by_answer(answer: &Answer) -> usize
     ensures { result ≡ kept_by_answer answer.now }
 {
@@ -25,7 +25,7 @@ fn kept_by_answer(answer: &Answer) -> usize
     }
 }
 
-// How many bytes a deed keeps beside itself, 2^64 - 1 at most.
+// The payload of a deed in bytes, 2^64 - 1 at most.
 pub(crate) fn kept_by_deed(deed: &StepDeed) -> u64
     ensures { result ≡ min (kept_by deed.now) (2 ^ 64 - 1) }
 {

@@ -1,8 +1,8 @@
-//! What a site did, step by step: its journal, the receipts that callers have of it, and the traits by which a desk and those that work
-//! for it know one another.
+//! What a site did, step by step: its journal, the receipts that callers have of it, and the traits between a desk and the code
+//! that works for it.
 //!
-//! A journal keeps the replica that it began from, each step since with what came of it, and the replica. The steps lead from the one to
-//! the other at all times, whatever was refused.
+//! A journal keeps the replica that it began from, each step since with its result, and the replica. The steps lead from the first
+//! replica to the present one at all times, whatever was refused.
 #![tactic(auto)]
 
 mod decoded_frame;

@@ -1,21 +1,21 @@
-//! What carries receipts and frames between a desk and those that work for it: traits, so that neither knows the other.
+//! Traits between a desk and its callers, so that neither depends on the other: they carry receipts and frames.
 ghost use Rattle.std.specs.Prelude.{◌≡◌, ◌≤◌, ◌+◌, IfErr, IfOk, MatchBool, None, Some, false, true};
 ghost use Rattle.dots.specs.declared.limits.TheConstants.{MOST_COUNT};
 ghost use Rattle.site_journal.specs.Receipts.{IsOfCut, IsOfTake, IsOfWhole};
 
 use crate::{DeskFault, Receipt};
 
-/// A desk's `cut`, `whole` and `take` for one pass (this project's own). Each call answers its receipt, or the fault for which nothing
-/// was done; the fault of the last call can be read of it.
+/// A desk's `cut`, `whole` and `take` for one pass. Each call returns its receipt, or the fault for which nothing was done. The
+/// fault of the last call can be read from the port.
 pub trait Port<R> {
     ghost use Rattle.std.specs.Prelude.{ℕ, Option};
     ghost use Rattle.site_journal.specs.declared.desk_fault.DeskFault.{DeskFault};
     ghost use Rattle.site_journal.specs.declared.receipt.Receipt.{Receipt};
 
-    /// What a call does that answers a receipt: it leads from the port's state before, with this receipt, to the state after.
+    /// The effect of a call that returns a receipt: from the port's state before, it leads with this receipt to the state after.
     ghost makes: { Self → Receipt → Self → Type 0 };
 
-    /// What a call does that has a fault: it leads from the state before, with this fault, to the state after.
+    /// The effect of a call that returns a fault: from the state before, it leads with this fault to the state after.
     ghost refuses: { Self → DeskFault → Self → Type 0 };
 
     /// The number of the pass, which stays.
@@ -27,7 +27,7 @@ pub trait Port<R> {
     /// The fault of the port's last call, if that had one.
     ghost fault: { Self → Option DeskFault };
 
-    /// Puts the site's buffer into its next frame, if there is something in it.
+    /// Puts the site's buffer into its next frame, if the buffer isn't empty.
     fn cut(&mut self, rt: &R) -> Result<Receipt, DeskFault>
         ensures made { IfOk result (λ receipt. makes self.old receipt self.new) }
         ensures refused { IfErr result (λ cause. refuses self.old cause self.new) }
@@ -39,7 +39,7 @@ pub trait Port<R> {
         ensures kept { IfErr result (λ cause. share self.new ≡ share self.old) }
         ensures told { IfErr result (λ cause. fault self.new ≡ Some cause) };
 
-    /// Puts all that the site knows into its next frame.
+    /// Puts everything that the site knows into its next frame.
     fn whole(&mut self, rt: &R) -> Result<Receipt, DeskFault>
         ensures made { IfOk result (λ receipt. makes self.old receipt self.new) }
         ensures refused { IfErr result (λ cause. refuses self.old cause self.new) }
@@ -51,7 +51,7 @@ pub trait Port<R> {
         ensures kept { IfErr result (λ cause. share self.new ≡ share self.old) }
         ensures told { IfErr result (λ cause. fault self.new ≡ Some cause) };
 
-    /// Lets the site take the frame that bytes spell; they come back where it doesn't.
+    /// Lets the site take the frame that the bytes encode. An error returns the bytes too.
     fn take(&mut self, rt: &R, bytes: Vec<u8>) -> Result<Receipt, (DeskFault, Vec<u8>)>
         ensures made { IfOk result (λ receipt. makes self.old receipt self.new) }
         ensures refused { IfErr result (λ refused. refuses self.old refused.0 self.new) }
@@ -65,14 +65,14 @@ pub trait Port<R> {
         ensures told { IfErr result (λ refused. fault self.new ≡ Some refused.0) };
 }
 
-/// What tells a pump when to cut (this project's own).
+/// Signals a pump to cut.
 pub trait Bell<R> {
     ghost use Rattle.std.specs.Prelude.{ℕ, Bool};
 
-    /// How often it rang: at most 2^40 times, as each wait says.
+    /// How often the bell rang: at most 2^40 times, as each wait ensures.
     ghost rings: { Self → ℕ };
 
-    /// Whether it has ended, which stays.
+    /// Whether the bell has ended; then it stays so.
     ghost ended: { Self → Bool };
 
     /// Waits for the next ring. `false`: the bell has ended.
@@ -85,14 +85,14 @@ pub trait Bell<R> {
         ensures ended { result ≡ false → ended self.new ≡ true };
 }
 
-/// What a call of a desk does while it holds the site's lock (this project's own): tests see by it that sites go on at once.
+/// A call that a desk makes while it holds the site's lock. With it tests see that sites run concurrently.
 pub trait Gate {
     ghost use Rattle.std.specs.Prelude.{ℕ};
 
-    /// What its call does: it leads from the state before, with this number, to the state after.
+    /// The effect of the gate's call: from the state before, it leads with this number to the state after.
     ghost called: { Self → ℕ → Self → Type 0 };
 
-    /// Is called once, with the number that the caller gave.
+    /// Called once, with the number that the caller gave.
     fn inside(&mut self, turn: u64)
         ensures { called self.old turn self.new };
 }

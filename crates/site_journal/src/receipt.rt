@@ -1,6 +1,6 @@
 use crate::StepDeed;
 
-/// What a caller has of a step: by which pass it was done, where it stands among all steps of the site, from 0, and what was done.
+/// A caller's record of a step: the pass that did it, its position among all steps of the site, from 0, and what was done.
 #[derive(Drop)]
 pub struct Receipt {
     /// The number of the pass by which the step was done.

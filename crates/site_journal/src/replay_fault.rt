@@ -1,9 +1,10 @@
 use thiserror::Error;
 
-/// Why a step that a store has kept was not done again. Of several causes the first of this list is answered (this project's own).
+/// Why a step that a store has kept was not done again. Where several causes apply, the first of this list is
+/// returned.
 #[derive(Clone, Copy, Debug, PartialEq, Eq, Error)]
 pub enum ReplayFault {
-    /// The journal has as many steps as it may, or 2^40 were done in all.
+    /// The journal holds its limit of steps, or 2^40 were done in all.
     #[error("journal full")]
     JournalFull,
     /// The site refuses the step of this position, or gives another answer or other bytes.

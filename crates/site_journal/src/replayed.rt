@@ -1,4 +1,4 @@
-//! Steps that are done again, as a store has kept them.
+//! Does stored steps again.
 ghost use Rattle.std.specs.Prelude.{◌≡◌, ◌⊎◌, ◌↔◌, ℕ, Err, IfErr, IfOk, OnErr, OnOk};
 ghost use Rattle.site_journal.specs.Journals.{HasAdded, IsFull, IsUnchanged};
 ghost use Rattle.replica.specs.Site.{SiteState};
@@ -7,7 +7,7 @@ ghost use Rattle.site_journal.specs.Replaying.{CanCome, IsAgain, replay_fault_of
 
 use crate::{DeskFault, Journaled, ReplayFault, Step, StepDeed};
 
-// Lets the site take the frame that bytes spell, by the pass of this number.
+// Lets the site take the frame that the bytes encode, by the pass of this number.
 fn take_again(journal: &mut Journaled, pass: u32, bytes: &[u8]) -> Result<Step, DeskFault>
     ensures added { IfOk result (λ done. HasAdded journal.old done journal.new) }
     ensures pass { IfOk result (λ done. done.pass ≡ pass) }
@@ -32,7 +32,7 @@ fn take_again(journal: &mut Journaled, pass: u32, bytes: &[u8]) -> Result<Step, 
     }
 }
 
-// Does what a step did, by the same pass, and answers the step that comes of it.
+// Does again what a step did, by the same pass, and returns the new step.
 fn done_again(journal: &mut Journaled, step: &Step) -> Result<Step, DeskFault>
     ensures added { IfOk result (λ done. HasAdded journal.old done journal.new) }
     ensures pass { IfOk result (λ done. done.pass ≡ step.now.pass) }
@@ -50,7 +50,7 @@ fn done_again(journal: &mut Journaled, step: &Step) -> Result<Step, DeskFault>
     }
 }
 
-// Why the step of this position was not done again, by the fault of the site.
+// The fault of a replay for the fault of the step at this position.
 fn replay_fault(fault: DeskFault, position: u64) -> ReplayFault
     ensures { result ≡ replay_fault_of position fault }
 {
@@ -62,10 +62,10 @@ fn replay_fault(fault: DeskFault, position: u64) -> ReplayFault
 }
 
 impl Journaled {
-    /// Does a step again that a store has kept, by the same pass: at Ok the journal has that very step more. After `Damaged` it may have
-    /// another one more. Errors, in order: 1 `JournalFull`, exactly where as many steps stand here as may, or 2^40 were done in all; 2
-    /// `Damaged` with the position of the step, exactly where the step can't come next: the site refuses it, or gives another answer or
-    /// other bytes; 3 `Memory`, which may stand in place of it.
+    /// Does a stored step again, by the same pass: after `Ok` the journal has exactly this step more. After `Damaged` it may have a
+    /// different step more. Errors, in order: 1 `JournalFull`, exactly where the journal holds its limit of steps, or 2^40 were
+    /// done in all; 2 `Damaged` with the position of the step, exactly where the step can't be next: the site refuses it, or gives
+    /// another answer or other bytes; 3 `Memory`, which may replace `Damaged`.
     pub fn replay(&mut self, step: &Step) -> Result<(), ReplayFault>
         ensures added { OnOk result (HasAdded self.old step.now self.new) }
         ensures full { (result ≡ Err ReplayFault.JournalFull) ↔ IsFull self.old }

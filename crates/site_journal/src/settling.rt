@@ -1,4 +1,4 @@
-//! Receipts of callers, compared with a journal.
+//! Compares the receipts of callers with a journal.
 ghost use Rattle.std.specs.Prelude.{◌≡◌, ◌↔◌, ◌<◌, ◌^◌, ◌++◌, ◌∷◌, [], List, IfErr, IsTrue, OnOk};
 ghost use Rattle.std.specs.Prelude.{length, map};
 ghost use Rattle.site_journal.specs.Settling.{AreSettled, IsLeastPass, IsUnsettled, receipts_of};
@@ -18,7 +18,7 @@ fn is_receipt_of(receipt: &Receipt, position: usize, step: &Step) -> bool
         && receipt.deed.same(&step.deed)
 }
 
-// Whether `list` has the receipts of the steps of the pass of this number, in their order, and no other.
+// Whether `list` has the receipts of the steps of the pass of this number, in order, and no other.
 fn is_list_of(steps: &[Step], pass: u32, list: &[Receipt]) -> bool
     ensures { IsTrue result ↔ (list.now ≡ receipts_of pass 0 steps.now) }
 {
@@ -68,10 +68,10 @@ fn least_pass(steps: &[Step], from: u32) -> Option<u32>
     found
 }
 
-/// Whether what callers were told is what a site did: one list of receipts a pass, in the order of their numbers, each with the
-/// receipts of the pass's steps at their positions, in order, and no other. A pass without a list counts as one that has no receipt. It
-/// takes no memory. Faults, in order: 1 `Checkpointed`, exactly where steps were dropped; 2 `Differs`, with the first pass whose list
-/// isn't that (this project's own).
+/// Checks that the receipts of all callers are those of a site's steps: one list of receipts a pass, in the order of their numbers,
+/// each with the receipts of the pass's steps at their positions, in order, and no other. A pass without a list counts as one
+/// without receipts. Takes no memory. Errors, in order: 1 `Checkpointed`, exactly where steps were dropped; 2 `Differs`, with the
+/// first pass whose list differs.
 pub fn settle(journal: &Journaled, lists: &[Vec<Receipt>]) -> Result<(), SettleFault>
     requires few { length lists.now < 2 ^ 32 }
     ensures settled { OnOk result ((journal.now.start ≡ 0)

@@ -3,16 +3,16 @@ ghost use Rattle.std.specs.Prelude.{◌≡◌, ◌↔◌, IfOk, IsTrue};
 use dots::{Bytes, Memory};
 use status_report::{Answer, Ask};
 
-/// What was done at a site. Frames are the bytes that spell them.
+/// A deed: what was done at a site. Frames are held as their bytes.
 #[derive(Drop)]
 pub enum StepDeed {
-    /// This ask was answered with this answer.
+    /// The site gave this answer to this ask.
     Asked(Ask, Answer),
-    /// The frame that these bytes spell was taken.
+    /// The site took the frame that these bytes encode.
     Took(Bytes),
-    /// The buffer was put into this frame, or was empty.
+    /// The site put its buffer into this frame, or the buffer was empty.
     Cut(Option<Bytes>),
-    /// All that the site knows was put into this frame.
+    /// The site put everything that it knows into this frame.
     Whole(Bytes),
 }
 
@@ -26,7 +26,7 @@ pub struct Step {
 }
 
 impl StepDeed {
-    /// The same deed once more. The one fault is want of memory.
+    /// Returns a copy. Fails only when out of memory.
     pub fn copy(&self) -> Result<StepDeed, Memory>
         ensures same { IfOk result (λ copy. copy ≡ self.now) }
     {
@@ -52,7 +52,7 @@ impl StepDeed {
         }
     }
 
-    /// Whether both are the same deed. It takes no memory.
+    /// Whether both are the same deed. Takes no memory.
     pub fn same(&self, other: &StepDeed) -> bool
         ensures { IsTrue result ↔ (self.now ≡ other.now) }
     {

@@ -1,4 +1,4 @@
-//! The steps of a journal, with the number of bytes that they keep beside themselves.
+//! The steps of a journal, with their payload in bytes.
 ghost use Rattle.std.specs.Prelude.{◌≡◌, ◌<◌, ◌≤◌, ◌+◌, ◌-◌, ◌^◌, ◌++◌, ◌∷◌, [], OnOk, min};
 ghost use Rattle.std.specs.Prelude.{vec_capacity, vec_len};
 ghost use Rattle.site_journal.specs.Keeping.{kept_by_steps};
@@ -8,17 +8,17 @@ use crate::keeping::kept_by_deed;
 use dots::Memory;
 use std::alloc::Global;
 
-// Steps in their order. Their payload is counted as they come and go, so that nobody walks over them to know it.
+// Steps in order. Their payload is updated with each step, so that no call walks over them.
 #[derive(Drop)]
 pub(crate) struct StepList {
     pub steps: Vec<Step>,
-    // How many bytes they keep beside themselves, 2^64 - 1 at most.
+    // Their payload in bytes, 2^64 - 1 at most.
     pub payload_bytes: u64,
     pub ghost counted: { payload_bytes ≡ min (kept_by_steps steps.items) (2 ^ 64 - 1) },
 }
 
 impl StepList {
-    // A list of no step. It takes no memory.
+    // A list of no step. Takes no memory.
     pub fn new(alloc: Global) -> StepList
         ensures { result.steps.items ≡ [] }
     {
@@ -36,7 +36,7 @@ impl StepList {
         self.steps.reserve(1)
     }
 
-    // Adds a step at the end, for which room was reserved.
+    // Appends a step, for which room was reserved.
     pub fn push_reserved(&mut self, step: Step)
         requires { vec_len self.old.steps < vec_capacity self.old.steps }
         ensures items { self.new.steps.items ≡ self.old.steps.items ++ step ∷ [] }

@@ -17,7 +17,7 @@ placed_before own other low = grind (arith, nat_tests)
 pub placed_behind : (own other : ℕ) → own < other → place_of own other + 1 ≡ other
 placed_behind own other high = grind (arith, nat_tests)
 
--- a place that is told by cases
+-- a place that is defined by cases
 pub placed_at : (own other place : ℕ) → (other ≤ own → place ≡ other) → (own < other → place + 1 ≡ other) → place ≡ place_of own other
 placed_at own other place before behind = ⊎_elim
     (λ (high : own < other). omega (arith, behind high, placed_behind own other high))
@@ -64,7 +64,7 @@ within ends site place e at = ⊎_elim (λ low. low) (λ past. absurd (none-some
 pub linked_none : (own : ℕ) (all : List (List Sending)) → IsLinkedFrom own 0 [] all all
 linked_none own all = record { linked = λ other apart low. absurd (omega (arith, low)); stays = λ site is. refl }
 
--- it isn't linked from itself
+-- a site isn't linked from itself
 pub linked_own : (own reached : ℕ) (from : List Receiving) (old new : List (List Sending)) → reached ≡ own → IsLinkedFrom own reached from old new
     → IsLinkedFrom own (reached + 1) from old new
 linked_own own reached from old new is was = record {
@@ -72,7 +72,7 @@ linked_own own reached from old new is was = record {
   stays = λ site at. was.stays site (⊎_elim inl (λ past. inr (omega (arith, past))) at);
 }
 
--- it was linked from one site more
+-- a site was linked from one more site
 pub linked_one : (own other : ℕ) (from all : List Receiving) (old mid new : List (List Sending)) (sender : Sending) (receiver : Receiving)
     → other ≢ own → other < length mid → length from ≡ place_of own other → IsNewLink sender receiver → all ≡ from ++ receiver ∷ []
     → new ≡ set mid other (ends_of mid other ++ sender ∷ [])
@@ -101,7 +101,7 @@ linked_one own other from all old mid new sender receiver apart low next one mor
           (λ (past : other + 1 ≤ site). kept site (λ there. omega (arith, past, there)) ∙ was.stays site (inr (omega (arith, past)))) is;
     }
 
--- the same of ends that lie in something else
+-- a site was linked from one more site, with ends that are part of another value
 pub linked_at : {A : Type 0} (f : A → List Sending) (own other : ℕ) (from all : List Receiving) (old : List (List Sending)) (to new : List A) (x v : A) (sender : Sending)
     (receiver : Receiving)
     → other ≢ own → other < length to → length from ≡ place_of own other → IsNewLink sender receiver → all ≡ from ++ receiver ∷ []

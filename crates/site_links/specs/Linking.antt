@@ -27,7 +27,8 @@ abbrev pub AreLinked : List (List Sending) → List (List Receiving) → Type 0
 AreLinked to from = (site other : ℕ) (sender : Sending) (receiver : Receiving) → site ≢ other → slice_get (ends_of to site) (place_of site other) ≡ Some sender
     → slice_get (ends_of from other) (place_of other site) ≡ Some receiver → IsNewLink sender receiver
 
--- the ends of all links of so many sites, which are new: each site has one for each other site that sends to it, and one that receives from it
+-- the ends of all links of `sites` sites, which are new: each site has one for each other site that sends to it, and one that
+-- receives from it
 pub record AreLinksOf (sites : ℕ) (links : SiteLinks) : Type 0 where
   pub to : vec_len links.to ≡ sites
   pub from : vec_len links.from ≡ sites

@@ -8,14 +8,14 @@ use Rattle.crossbeam_channel.specs.declared.flavors.array.Key.{Key}
 use Rattle.crossbeam_channel.specs.declared.flavors.array.Rows.{Rows}
 use Rattle.site_links.specs.declared.log.Log.{Log}
 
--- which link it is, by its tables and its key, and how many items it holds at most
+-- the identity of a link, by its tables and its key, and the most items that it holds
 pub record LinkIdentity : Type 0 where
   pub table : TableId
   pub key : Badge (Key (List ℕ))
   pub messages : TableId
   pub capacity : ℕ
 
--- the end of a link that sends: all that was sent, and whether a send handed its bytes back
+-- the end of a link that sends: all that was sent, and whether a send returned its bytes
 pub record Sending : Type 0 where
   pub link : LinkIdentity
   pub sent : List (List ℕ)

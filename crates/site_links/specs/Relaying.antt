@@ -1,5 +1,5 @@
--- The rule of a link: what was sent is what was received, and then what the channel holds. One pass at most may send, and it has the list of what was
--- sent; and one may receive.
+-- The invariant of a link: the sent items are the received ones, followed by those in the channel. At most one pass may send, and
+-- it has the list of the sent items; and one may receive.
 use Rattle.std.specs.Prelude.{◌≡◌, ◌≤◌, ℕ, Bool, true, List, ◌++◌, length}
 use mathlib.Core.Option.{some}
 use lib.ListN.{get_elem?}

@@ -3,8 +3,8 @@ ghost use Rattle.std.specs.Prelude.{◌≡◌, ◌++◌, ℕ, List, length};
 use crate::log::{Roles, Total};
 use crate::{LinkReceiver, LinkSender};
 
-/// Gives up both ends of one link, and answers how many items were sent and how many received. What was received is a front of what
-/// was sent.
+/// Drops both ends of one link, and returns how many items were sent and how many received. The received items are a prefix of the
+/// sent ones.
 pub fn compare(sender: LinkSender, receiver: LinkReceiver) -> (u64, u64)
     requires { receiver.link ≡ sender.link }
     ensures sent { result.0 ≡ length sender.sent }

@@ -1,7 +1,7 @@
-//! Links between sites: one end sends frames as bytes, the other receives them in their order, and each end tells what it knows.
+//! Links between sites: one end sends frames as bytes, the other receives them in order, and each end counts its items.
 //!
-//! What was received is at all times a front of what was sent: nothing is lost, repeated or changed on the way, and what a sender
-//! wants to lose it doesn't send. A link carries bytes and knows nothing of frames.
+//! The received items are at all times a prefix of the sent ones: the link loses, repeats and changes nothing. A sender that is
+//! to lose an item doesn't send it. A link carries bytes and knows nothing of frames.
 #![tactic(auto)]
 
 mod comparing;

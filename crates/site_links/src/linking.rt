@@ -1,4 +1,4 @@
-//! The links between sites that run at once.
+//! The links between sites in threads.
 ghost use Rattle.std.specs.Prelude.{◌≡◌, ◌+◌, ◌<◌, ◌++◌, ◌∷◌, [], IfNone, IfOk, IfSome, OnOk, length};
 ghost use Rattle.std.specs.Prelude.{map, vec_len};
 ghost use Rattle.site_links.specs.Linking.{AreLinksOf, IsLinkedFrom, IsNewLink};
@@ -22,12 +22,12 @@ pub struct LinkEnds {
 pub struct SiteLinks {
     /// Those that send, each site's by the numbers of the other sites.
     pub to: Vec<Vec<LinkSender>>,
-    /// Those that receive, likewise.
+    /// Those that receive, each site's by the numbers of the other sites.
     pub from: Vec<Vec<LinkReceiver>>,
 }
 
 impl SiteLinks {
-    /// Takes the ends of the last site that are left.
+    /// Removes and returns the ends of the last site.
     pub fn pop(&mut self) -> Option<LinkEnds>
         requires { vec_len self.old.to ≡ vec_len self.old.from }
         ensures to { IfSome result (λ ends.
@@ -48,7 +48,7 @@ impl SiteLinks {
     }
 }
 
-// Puts both ends of one new link more behind others.
+// Appends both ends of one new link to others.
 fn add_link(
     alloc: Global,
     to: &mut Vec<LinkSender>,
@@ -65,7 +65,7 @@ fn add_link(
     Ok(())
 }
 
-// Links a site from each other one. The ends that send go behind those that their sites have already.
+// Links a site with each other one. The ends that send are appended to those that their sites have already.
 fn link_to(
     alloc: Global,
     site: usize,
@@ -86,7 +86,7 @@ fn link_to(
     Ok(from)
 }
 
-/// A new link from each of `sites` sites to each other, which holds 64 items. The one fault is want of memory (this project's own).
+/// A new link from each of `sites` sites to each other one, which holds 64 items. Fails only when out of memory.
 pub fn link_all(alloc: Global, sites: usize) -> Result<SiteLinks, Memory>
     ensures { IfOk result (λ links. AreLinksOf sites links) }
 {

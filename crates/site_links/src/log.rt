@@ -1,11 +1,11 @@
-//! What the passes of a link know, and the rule that relates this to what the channel holds.
+//! The logs of a link's passes, and the invariant that relates them to the items in the channel.
 ghost use Rattle.std.specs.Prelude.{◌≡◌, ◌++◌, ◌∷◌, [], ◌≤◌, length};
 
 use crossbeam_channel::protocol::{Join, Lesson, Outcome, Protocol, Split};
 use dots::Bytes;
 use std::collections::LinkedList;
 
-/// What a pass may do, and what was sent and received by it. No value of it is made: proofs alone speak of it.
+/// The rights of a pass, and what it has sent and received. No value of it is made: it exists only in proofs.
 pub struct Log {
     /// Whether it may send.
     pub sends: bool,
@@ -17,7 +17,7 @@ pub struct Log {
     pub received: LinkedList<Bytes>,
 }
 
-/// The rule of a link: what was sent is what was received, and then what the channel holds.
+/// The invariant of a link: the sent items are the received ones, followed by those in the channel.
 pub struct InOrder;
 
 impl Protocol<Bytes, Log> for InOrder {
@@ -78,7 +78,7 @@ impl Lesson<Bytes, Log> for Received {
     ghost fact = { λ v items. Unit {0} };
 }
 
-/// What the channel holds is what was sent and not yet received.
+/// The items in the channel are those that were sent and not yet received.
 pub struct Total;
 
 impl Lesson<Bytes, Log> for Total {

@@ -36,7 +36,8 @@ impl Model for LinkReceiver {
 }
 
 impl LinkReceiver {
-    /// Waits for the next item. `None` where none is left and the sender is gone: then the link has ended, for good (this project's own).
+    /// Waits for the next item. `None` if none is left and the sender is dropped: then the link has ended, and every later call
+    /// returns `None`.
     pub fn recv<R: Wait>(&mut self, rt: &R) -> Option<Vec<u8>>
         ensures received { IfSome result (λ bytes.
             self.new ≡ record self.old { received = self.old.received ++ bytes.items ∷ [] }) }
@@ -64,7 +65,7 @@ impl LinkReceiver {
         }
     }
 
-    /// Whether a receive has found the link's end. It takes no memory, like all that only reads.
+    /// Whether a receive has found the link's end. Takes no memory.
     pub fn ended(&self) -> bool
         ensures { result ≡ self.now.ended }
     {

@@ -36,8 +36,8 @@ impl Model for LinkSender {
 }
 
 impl LinkSender {
-    /// Sends these bytes as the next item, and waits while the link holds as many as it may. They come back where the receiver is gone, or
-    /// 2^40 items were sent: then the link is down, for good (this project's own).
+    /// Sends these bytes as the next item, and waits while the link is full. Returns the bytes if the receiver is dropped, or 2^40
+    /// items were sent: then the link is down, and every later call returns its bytes too.
     pub fn send<R: Wait>(&mut self, rt: &R, bytes: Vec<u8>) -> Result<(), Vec<u8>>
         ensures sent { OnOk result
             (self.new ≡ record self.old { sent = self.old.sent ++ bytes.items ∷ [] }) }
@@ -67,7 +67,7 @@ impl LinkSender {
         }
     }
 
-    /// Whether a send has handed its bytes back. It takes no memory, like all that only reads.
+    /// Whether a send has returned its bytes. Takes no memory.
     pub fn down(&self) -> bool
         ensures { result ≡ self.now.down }
     {

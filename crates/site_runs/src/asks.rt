@@ -1,4 +1,4 @@
-//! What is asked of the sites, by lot: changes of a few members in two queues, calls that are counted, and reports.
+//! Random asks of the sites: changes of a few members in two queues, calls that are counted, and reports.
 use crate::RunsFault;
 use crate::numbers::Numbers;
 use dots::{Bytes, Interface, Label, Pause, Penalty, QueueName, Text80};
@@ -10,7 +10,7 @@ const SALES: &[u8] = b"sales";
 
 const SUPPORT: &[u8] = b"support";
 
-// No site has it, so that a report of it is short.
+// An interface that no site has, so that a report of it is short.
 const NOBODY: &[u8] = b"SIP/nobody";
 
 // The queues of all sites.
@@ -114,7 +114,7 @@ fn short_status(alloc: Global) -> Result<StatusRequest, RunsFault> {
     Ok(request)
 }
 
-// What is asked next.
+// The next ask.
 pub(crate) fn some_ask(alloc: Global, numbers: &mut Numbers) -> Result<Ask, RunsFault> {
     let command = match numbers.below(9) {
         0 => return Ok(Ask::Status(short_status(alloc)?)),

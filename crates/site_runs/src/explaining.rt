@@ -7,7 +7,7 @@ use sites_world::{Event, Outcome, World};
 use status_report::report;
 use std::alloc::Global;
 
-// Lets events happen in a world, one after another.
+// Runs events in a world, in order.
 fn let_happen(world: &mut World, events: Vec<Event>) -> Result<(), RunsFault> {
     for event in events {
         if let Outcome::NoMemory = world.happen(event) {
@@ -50,8 +50,8 @@ pub(crate) fn explained(alloc: Global, journals: &[Journaled]) -> Result<Vec<Eve
     Ok(events)
 }
 
-// Lets the events that explain the journals of `sites` sites happen in a new world, whose sites then report as the journals do. Answers
-// how many events there are.
+// Runs the events that explain the journals of `sites` sites in a new world, whose sites then report as the journals do. Returns
+// the number of events.
 pub(crate) fn replay(alloc: Global, sites: u16, journals: &[Journaled]) -> Result<u64, RunsFault> {
     let events = explained(alloc, journals)?;
     let count = events.len() as u64;

@@ -1,21 +1,20 @@
-//! Lets sites work on what is drawn by lot, the same on each run, and tries whether all that they told fits together: for tests, and to
-//! be timed.
+//! Runs random workloads on sites, the same at each run, and checks that their results fit together: for tests, and for
+//! measurements of time.
 //!
-//! `site_runs journals SITES STEPS`: SITES sites, 1 to 8, do STEPS steps each, 1 to 1,000,000, in one thread. A site is asked
-//! something, cuts, makes a whole or takes one of the latest frames of all sites, its own too. The receipts of its steps settle its
-//! journal. Standard output tells how many steps there are.
+//! `site_runs journals SITES STEPS`: SITES sites, 1 to 8, do STEPS steps each, 1 to 1,000,000, in one thread. A site runs an ask,
+//! cuts, makes a whole or takes one of the latest frames of all sites, its own too. The receipts of its steps settle its journal.
+//! Prints the number of steps.
 //!
-//! `site_runs audit SITES STEPS`: an audit explains these journals by one list of events, of which standard output tells how many there
-//! are.
+//! `site_runs audit SITES STEPS`: an audit explains these journals by one list of events. Prints their number.
 //!
-//! `site_runs world SITES STEPS`: these events happen in a new world, in which each site then reports what it does by its journal.
-//! Standard output tells how many there are.
+//! `site_runs world SITES STEPS`: runs these events in a new world, in which each site then reports the same as by its journal.
+//! Prints their number.
 //!
-//! `site_runs threads RUNS SITES ASKS`: RUNS times SITES sites run as threads and are asked ASKS times each, while their frames are lost,
-//! doubled and held back. No site has a fault, all fits together as in such a world, and all sites report the same at their end. Standard
-//! output tells how often they have run, since nothing else is the same each time.
+//! `site_runs threads RUNS SITES ASKS`: RUNS times SITES sites run as threads and are asked ASKS times each, while their links
+//! lose, repeat and hold back frames. No site has a fault, an audit explains all journals, and all sites report the same at their
+//! end. Prints only the number of runs, since everything else varies.
 //!
-//! The status is 1 where something doesn't fit or memory is wanting, and 2 where the words are wrong, as a line on standard error says.
+//! Exit status 1: a result doesn't fit, or memory ran out. Exit status 2: the command line is wrong; standard error has a line.
 #![tactic(auto)]
 
 ghost use Rattle.std.specs.Prelude.{◌≤◌, IfSome};
@@ -60,7 +59,7 @@ fn main(rt: HostRuntime) -> ExitCode {
     ExitCode::from(run(&rt).unwrap_or(1))
 }
 
-// Runs the program, and answers its status. `Err`: a text could not be printed.
+// Runs the program, and returns its exit status. `Err`: a text could not be printed.
 fn run<R: Env + AllocGlobal + Print + Eprint + Threads + Wait + Sync>(rt: &R) -> io::Result<u8> {
     let words = match words(rt) {
         Ok(words) => words,
@@ -79,7 +78,7 @@ fn run<R: Env + AllocGlobal + Print + Eprint + Threads + Wait + Sync>(rt: &R) ->
     }
 }
 
-// Says on standard error why sites failed, and answers the status.
+// Writes to standard error why sites failed, and returns the exit status.
 fn fail<R: Eprint>(rt: &R, fault: RunsFault) -> io::Result<u8> {
     eprintln!(rt; "site_runs: {fault}")?;
     Ok(1)
@@ -93,7 +92,7 @@ fn words<R: Env + AllocGlobal>(rt: &R) -> io::Result<Vec<String>> {
     Ok(words)
 }
 
-// A number from 1 to the most that is told.
+// Parses a number from 1 to `most`.
 fn number(word: &str, most: u32) -> Option<u32>
     ensures some { IfSome result (λ number. 1 ≤ number) }
     ensures most { IfSome result (λ number. number ≤ most) }
@@ -110,7 +109,7 @@ fn read_work(sites: &str, steps: &str) -> Option<Work> {
     Some(Work { sites, steps })
 }
 
-// Does what these words tell, of which the first is the program's own name. None where they are wrong.
+// Runs these words of the command line, of which the first is the program's own name. `None` if they are wrong.
 fn do_words<R: AllocGlobal + Print + Threads + Wait + Sync>(
     rt: &R,
     words: &[String],

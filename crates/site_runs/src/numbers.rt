@@ -1,4 +1,4 @@
-//! Numbers that seem drawn by lot.
+//! Pseudorandom numbers.
 ghost use Rattle.std.specs.Prelude.{◌<◌};
 
 // Donald Knuth's, for his computer MMIX.
@@ -6,19 +6,19 @@ const MULTIPLIER: u64 = 6_364_136_223_846_793_005;
 
 const INCREMENT: u64 = 1_442_695_040_888_963_407;
 
-// Numbers that are the same on each run: those of a linear congruential generator, of which the upper 31 bits are told.
+// A pseudorandom sequence, the same at each run: a linear congruential generator that returns its upper 31 bits.
 #[derive(Clone, Copy)]
 pub(crate) struct Numbers {
     last: u64,
 }
 
 impl Numbers {
-    // Those that follow this one.
+    // The numbers after this one.
     pub(crate) fn new(first: u64) -> Numbers {
         Numbers { last: first }
     }
 
-    // The next one, as its remainder by a limit.
+    // The next number, modulo a limit.
     pub(crate) fn below(&mut self, limit: u64) -> u64
         requires { 0 < limit }
         ensures { result < limit }

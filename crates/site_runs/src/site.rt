@@ -17,7 +17,7 @@ const FRAMES: u32 = 1;
 
 const TAKES: u32 = 2;
 
-// A frame is taken while it is one of the last of this number; so it is late, repeated or lost, as it happens.
+// A frame is taken while it is one of the last of this number; so it may be late, repeated or lost.
 const LATEST: usize = 64;
 
 // A site with its journal, and the receipts of each of its passes.
@@ -66,7 +66,7 @@ impl Site {
         }
     }
 
-    // Does its next step, whose frame, if it makes one, goes behind those of all sites.
+    // Does its next step. The frame of the step, if it makes one, is appended to those of all sites.
     pub(crate) fn work(
         &mut self,
         alloc: Global,

@@ -1,4 +1,4 @@
-//! Sites that work as threads, whose frames are lost, doubled and held back on their way.
+//! Sites in threads, whose links lose, repeat and hold back frames.
 ghost use Rattle.std.specs.List.{All};
 ghost use Rattle.std.specs.Prelude.{◌<◌, ◌^◌, vec_len};
 
@@ -15,7 +15,7 @@ use std::thread::Threads;
 // How many deeds a plan has at most.
 const MOST_DEEDS: u64 = 8;
 
-// A gate at which nothing is done.
+// A gate that does nothing.
 #[derive(Drop)]
 struct OpenGate;
 
@@ -44,7 +44,7 @@ fn some_plan(alloc: Global, numbers: &mut Numbers) -> Result<LinkPlan, RunsFault
     Ok(LinkPlan::new(deeds))
 }
 
-// So many asks, and a plan.
+// A list of random asks, and a random link plan.
 fn some_work(
     alloc: Global,
     numbers: &mut Numbers,
@@ -99,7 +99,7 @@ fn compare(alloc: Global, journals: &[Journaled]) -> Result<(), RunsFault> {
     Ok(())
 }
 
-// Lets `sites` sites run once, each of which is asked `asks` times.
+// Runs `sites` sites once, each of which is asked `asks` times.
 fn run_once<R: AllocGlobal + Threads + Wait + Sync>(
     rt: &R,
     numbers: &mut Numbers,
@@ -118,7 +118,7 @@ fn run_once<R: AllocGlobal + Threads + Wait + Sync>(
     Ok(())
 }
 
-// Lets `sites` sites run `runs` times, each time on other asks and plans.
+// Runs `sites` sites `runs` times, each time with other asks and plans.
 pub(crate) fn run_often<R: AllocGlobal + Threads + Wait + Sync>(
     rt: &R,
     runs: u32,

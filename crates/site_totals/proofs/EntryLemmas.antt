@@ -25,7 +25,7 @@ use Rattle.site_totals.specs.TotalLists.{Row, IsKept, row_totals, entries_of}
 pub entries_are : (rows : List Row) → IsRising key_cmp rows → map.entries (entries_of rows) ≡ rows
 entries_are rows h = map.entries-from_sorted key_cmp rows (truth _ h)
 
--- and is read as the list is
+-- the map of a list reads as the list
 pub get_is : (rows : List Row) → IsRising key_cmp rows → (key : Key) → map.get (entries_of rows) key ≡ map.find key_cmp key rows
 get_is rows h key = map.get-from_sorted key_cmp rows key (truth _ h)
 
@@ -65,7 +65,7 @@ module _ (rows : List Row) (h : IsRising key_cmp rows) (key : Key) (totals : Cal
   pub missing_one : count_missing (entries_of rows) (single key totals) ≡ cond (is_none (map.find key_cmp key rows)) 1 0
   missing_one = count_missing_single (entries_of rows) key totals some ∙ ap (λ o. cond (is_none o) 1 0) (get_is rows h key)
 
--- it stays within the limits
+-- a list stays within the limits when one entry is joined
 pub kept_by_put : (rows : List Row) → IsKept rows → (key : Key) (totals : CallTotals) → is_zero totals ≡ false → InLimits (single key totals) → IsKept (map.put key_cmp key (greater (row_totals rows key) totals) rows)
 kept_by_put rows h key totals some limits = record {
   rising = rising_put rows h.rising key (greater (row_totals rows key) totals);

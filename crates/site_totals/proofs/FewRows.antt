@@ -45,7 +45,7 @@ missing_after x y (row ∷ rows) =
     let one = ap {B = ℕ} (λ o. cond (is_none o) 1 0) (get_joined x y row.0) in
     omega (arith, after, before, one, fewer (map.get x row.0) (map.get y row.0), missing_after x y rows)
 
--- so much is missing of a first entry, and of those that follow once it is joined in
+-- the keys missing of a list are those of its first entry, and of the others once that is joined
 pub front_missing : (x : Entries) (row : Row) (rows : List Row) → IsRising key_cmp (row ∷ rows) → is_zero row.1 ≡ false
     → count_missing x (single row.0 row.1) + count_missing (join_of x (single row.0 row.1)) (entries_of rows) ≤ count_missing x (entries_of (row ∷ rows))
 front_missing x row rows h some =

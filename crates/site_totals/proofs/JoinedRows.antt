@@ -39,7 +39,7 @@ equal_front : (row other : Row) (rows others : List Row) → Equal ≡ next_orde
 equal_front row other rows others h =
     ap (λ o. by_order o (row ∷ joined_rows rows (other ∷ others)) ((row.0, greater row.1 other.1) ∷ joined_rows rows others) (other ∷ joined_rows (row ∷ rows) others)) (sym h)
 
--- the same by places
+-- the entry of the least key is the first of the one list, by places
 pub less_at : (rows others : List Row) (i : ℕ) (row : Row) → i < length rows → row ≡ get_or rows i row → Less ≡ next_order (drop i rows) others
     → joined_rows (drop i rows) others ≡ row ∷ joined_rows (drop (i + 1) rows) others
 less_at rows others i row lt is h =
@@ -166,7 +166,7 @@ rising_joined : (rows others : List Row) → IsRising key_cmp rows → IsRising 
 rising_joined [] others h k = k
 rising_joined (row ∷ rows) others h k = rising_from row rows h (λ left. rising_joined rows left (rising_tail key_cmp keys_total row rows h)) others k
 
--- it has the entries of the join, and may be kept where both may
+-- the joined list has the entries of the join, and is within the limits if both are
 pub joined_rows_are : (rows others : List Row) → IsRising key_cmp rows → IsRising key_cmp others → entries_of (joined_rows rows others) ≡ join_of (entries_of rows) (entries_of others)
 joined_rows_are rows others h k = same_totals _ _ (λ q.
     get_is (joined_rows rows others) (rising_joined rows others h k) q

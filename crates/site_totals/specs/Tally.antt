@@ -3,7 +3,7 @@ use Rattle.std.specs.Prelude.{ℕ, ◌≤◌, refl}
 use Rattle.std.specs.Coded.{Coded, code_by, coded×, coded_ℕ}
 use Rattle.operations.specs.Totals.{Entries, entries_code, count_missing}
 
--- what is seen of `Totals`: its entries, and for how many more entries room is reserved
+-- what contracts see of `Totals`: its entries, and for how many more entries room is reserved
 pub record Tally : Type 0 where
   pub entries : Entries
   pub room : ℕ

@@ -1,4 +1,4 @@
--- The list that totals are kept in: entries in the order of their keys.
+-- The list of entries of totals, in the order of their keys.
 use Rattle.std.specs.Prelude.{List, [], ◌∷◌}
 use Rattle.std.specs.Option.{unwrap_or}
 use Rattle.std.specs.Ordering.{on}
@@ -11,7 +11,7 @@ use Rattle.general_lemmas.specs.SortedEntries.{IsRising}
 use Rattle.dots.specs.CountedCalls.{no_calls}
 use Rattle.operations.specs.Totals.{Key, key_cmp, Entries, InLimits, greater}
 
--- an entry of the list that totals are kept in: a key with its totals
+-- an entry of the list of totals: a key with its totals
 abbrev pub Row : Type 0
 Row = Key × CallTotals
 
@@ -23,13 +23,12 @@ row_totals rows key = unwrap_or (map.find key_cmp key rows) no_calls
 abbrev pub entries_of : List Row → Entries
 entries_of rows = map.from_sorted rows
 
--- `rows` is a list that totals may be kept in: its keys rise, and each entry is within the limits
+-- `rows` is a list of totals' entries: its keys are sorted, and each entry is within the limits
 pub record IsKept (rows : List Row) : Type 0 where
   pub rising : IsRising key_cmp rows
   pub limits : InLimits (entries_of rows)
 
--- how the key in front of a first list is ordered to that in front of a second; `Less` where the
--- second alone is empty, `Greater` where the first is
+-- the order of the first keys of two lists; `Less` if only the second list is empty, `Greater` if the first is
 abbrev pub next_order : List Row → List Row → Ordering
 next_order = next_by (on (λ row. row.0) key_cmp)
 
@@ -40,8 +39,7 @@ joined_from row rest [] = row ∷ rest []
 joined_from row rest (other ∷ others) =
     by_order (key_cmp row.0 other.0) (row ∷ rest (other ∷ others)) ((row.0, greater row.1 other.1) ∷ rest others) (other ∷ joined_from row rest others)
 
--- the join of two lists whose keys rise: each key of either once, with the greater totals where
--- both have it
+-- the join of two sorted lists: each key of either once, with the greater totals where both have it
 abbrev pub joined_rows : List Row → List Row → List Row
 joined_rows [] others = others
 joined_rows (row ∷ rows) others = joined_from row (joined_rows rows) others

@@ -9,7 +9,8 @@ ghost use Rattle.site_totals.specs.TotalLists.{IsKept, entries_of};
 use crate::TotalKey;
 use crate::rows::{Row, join_one, search};
 
-// So many entries are few: to shift the entries behind each of them costs less than to walk all.
+// The greatest number of entries that count as few: to shift the entries after each of them costs
+// less than to walk all.
 pub(crate) const FEW_ROWS: usize = 16;
 
 // Whether no entry has the key.
@@ -23,7 +24,7 @@ fn lacks(rows: &[Row], key: TotalKey) -> bool
     }
 }
 
-// How many keys of the others these lack.
+// The number of keys that only the others have.
 pub(crate) fn searched_count(rows: &[Row], others: &[Row]) -> usize
     requires rising { IsRising key_cmp rows.now }
     requires others_rising { IsRising key_cmp others.now }
@@ -38,7 +39,7 @@ pub(crate) fn searched_count(rows: &[Row], others: &[Row]) -> usize
     count
 }
 
-// Joins others into entries in place, in room that is there. It takes no memory.
+// Joins others into entries in place, in room that is there. Takes no memory.
 pub(crate) fn absorb_searched(rows: &mut Vec<Row>, others: &[Row])
     requires kept { IsKept rows.old.items }
     requires others_kept { IsKept others.now }

@@ -1,4 +1,4 @@
-// The join of two lists of entries: few others are searched for; else both are walked once, in the order of their keys.
+// Joins two lists of entries: few others are searched for; otherwise both are walked once, in the order of their keys.
 ghost use Rattle.std.specs.Prelude.{◌≡◌, ◌+◌, ◌-◌, ◌<◌, ◌≤◌, ◌∷◌, length, drop};
 ghost use Rattle.std.specs.Vec.{vec_capacity, vec_len};
 ghost use Rattle.general_lemmas.specs.SortedEntries.{IsRising};
@@ -9,7 +9,7 @@ use crate::few::{FEW_ROWS, absorb_searched, searched_count};
 use crate::rows::{Row, greater};
 use std::cmp::Ordering;
 
-// Which list has the least key that is left: `Less` where the first has it, `Greater` where the others have it.
+// Which list has the least key that is left: `Less` for the first, `Greater` for the others.
 fn compare_next(rows: &[Row], own: usize, others: &[Row], theirs: usize) -> Ordering
     requires own_within { own ≤ length rows.now }
     requires theirs_within { theirs ≤ length others.now }
@@ -24,7 +24,7 @@ fn compare_next(rows: &[Row], own: usize, others: &[Row], theirs: usize) -> Orde
     rows[own].0.cmp(&others[theirs].0)
 }
 
-// Goes past the least key that is left in two lists, and answers its entry: of a key of both the greater totals.
+// Advances past the least key that is left in two lists, and returns its entry: for a key of both, the greater totals.
 fn next_row(rows: &[Row], own: &mut usize, others: &[Row], theirs: &mut usize) -> Row
     requires own_within { own.old ≤ length rows.now }
     requires theirs_within { theirs.old ≤ length others.now }
@@ -56,7 +56,7 @@ fn next_row(rows: &[Row], own: &mut usize, others: &[Row], theirs: &mut usize) -
     }
 }
 
-// How many entries the join of two lists has. Walks both once.
+// The number of entries of the join of two lists. Walks both once.
 fn joined_count(rows: &[Row], others: &[Row]) -> usize
     ensures { result ≡ length (joined_rows rows.now others.now) }
 {
@@ -70,7 +70,7 @@ fn joined_count(rows: &[Row], others: &[Row]) -> usize
     count
 }
 
-// How many keys of the others these lack. Few others are searched for, and for more both are walked once.
+// The number of keys that only the others have. Few others are searched for; for more, both are walked once.
 pub(crate) fn count_missing(rows: &[Row], others: &[Row]) -> usize
     requires rising { IsRising key_cmp rows.now }
     requires others_rising { IsRising key_cmp others.now }
@@ -99,8 +99,8 @@ fn merge(rows: &mut [Row], spare: usize, others: &[Row])
     }
 }
 
-// Joins others into entries in place, in room that is there. It takes no memory. Few others are searched for, and for
-// more both are walked once.
+// Joins others into entries in place, in room that is there. Takes no memory. Few others are searched for, and for more
+// both are walked once.
 pub(crate) fn absorb_rows(rows: &mut Vec<Row>, others: &[Row])
     requires kept { IsKept rows.old.items }
     requires others_kept { IsKept others.now }

@@ -1,4 +1,4 @@
-//! What holds of every join, whatever the totals. The functions have no body: their contracts are the laws.
+//! Laws of the join of totals. The functions have no body: their contracts are the laws.
 ghost use Rattle.std.specs.Prelude.{◌≡◌, ◌+◌, ℕ};
 ghost use Rattle.dots.specs.declared.calls.Calls.{Calls};
 ghost use Rattle.general_lemmas.specs.Joins.{IsJoin};
@@ -6,12 +6,13 @@ ghost use Rattle.operations.specs.Totals.{Entries, InLimits, Key, join_of, singl
 ghost use Rattle.operations.specs.Totals.{greater};
 ghost use Rattle.site_totals.specs.Raising.{alone, number_of, raised_totals};
 
-/// Totals are joined in any order (RR-7506's grow-only counter). Each two agree.
+/// Join of totals is commutative, associative and idempotent (RR-7506's grow-only counter). Any two totals
+/// agree.
 pub fn totals_are_joined()
     ensures { IsJoin {T = Entries} (λ _ _. Unit {0}) join_of }
 {}
 
-/// The join of two totals reads as the greater of both.
+/// The join of two totals has the greater of both for each site and queue.
 pub fn join_takes_the_greater()
     ensures { (x y : Entries) (site queue : ℕ)
         → totals_of (join_of x y) site queue
@@ -24,7 +25,7 @@ pub fn totals_that_read_alike_are_equal()
         → ((site queue : ℕ) → totals_of x site queue ≡ totals_of y site queue) → x ≡ y }
 {}
 
-/// To count one more call is to join in the new total alone: totals only grow.
+/// To count one more call is to join the new total: totals only grow.
 pub fn raise_is_a_join()
     ensures { (x : Entries) (key : Key) (calls : Calls)
         → raised_totals x key calls

@@ -1,11 +1,11 @@
-// One more call in totals.
+// Counts one more call in totals.
 ghost use Rattle.std.specs.Prelude.{◌≡◌, ◌+◌, ◌<◌, ◌^◌};
 ghost use Rattle.site_totals.specs.Raising.{number_of, one_more};
 
 use crate::{CallTotals, Calls};
 use dots::MOST_CALLS;
 
-// How many of these calls are counted.
+// The number of these calls.
 pub(crate) fn number_of(calls: Calls, totals: CallTotals) -> u64
     ensures { result ≡ number_of calls totals }
 {

@@ -17,7 +17,7 @@ use dots::{MOST_CALLS, QUEUES};
 // An entry: a key with its totals.
 pub(crate) type Row = (TotalKey, CallTotals);
 
-// Where the key is, or where it would go.
+// The place of the key, or where it would be inserted.
 pub(crate) fn search(rows: &[Row], key: TotalKey) -> Result<usize, usize>
     requires { IsRising key_cmp rows.now }
     ensures found { IfOk result (IsAt rows.now key) }
@@ -26,7 +26,7 @@ pub(crate) fn search(rows: &[Row], key: TotalKey) -> Result<usize, usize>
     rows.binary_search_by_key(&key, |&(key, _)| key)
 }
 
-// What the entries have at a key, no calls where they have none.
+// The totals of a key; no calls if it has no entry.
 pub(crate) fn row_totals(rows: &[Row], key: TotalKey) -> CallTotals
     requires { IsRising key_cmp rows.now }
     ensures { result ≡ row_totals rows.now key }
@@ -37,8 +37,8 @@ pub(crate) fn row_totals(rows: &[Row], key: TotalKey) -> CallTotals
     }
 }
 
-// What the entries have at a key, no calls where they have none, and the place where it is or would go. It is looked for at a
-// guessed place first.
+// The totals of a key, no calls if it has no entry, and the place where it is or would be inserted. A guessed place is tried
+// first.
 pub(crate) fn row_totals_near(rows: &[Row], key: TotalKey, guess: usize) -> (CallTotals, usize)
     requires { IsRising key_cmp rows.now }
     ensures { result.0 ≡ row_totals rows.now key }
@@ -52,7 +52,7 @@ pub(crate) fn row_totals_near(rows: &[Row], key: TotalKey, guess: usize) -> (Cal
     }
 }
 
-// Whether both lists are one.
+// Whether both lists are equal.
 pub(crate) fn same_rows(rows: &[Row], others: &[Row]) -> bool
     ensures { IsTrue result ↔ (rows.now ≡ others.now) }
 {
@@ -69,7 +69,7 @@ pub(crate) fn greater(left: CallTotals, right: CallTotals) -> CallTotals
     }
 }
 
-// Puts totals at a key, over those that are there or as a new entry.
+// Sets the totals of a key, in its entry or a new one.
 pub(crate) fn put(rows: &mut Vec<Row>, key: TotalKey, totals: CallTotals) -> Result<(), Memory>
     requires { IsRising key_cmp rows.old.items }
     ensures ok { OnOk result (rows.new.items ≡ map.put key_cmp key totals rows.old.items) }
@@ -92,7 +92,7 @@ pub(crate) fn put(rows: &mut Vec<Row>, key: TotalKey, totals: CallTotals) -> Res
     }
 }
 
-// Joins one entry in: the greater of what is there and these totals. Two zeros are no entry.
+// Joins one entry: the greater of the present and these totals. Two zeros are no entry.
 pub(crate) fn join_one(rows: &mut Vec<Row>, key: TotalKey, totals: CallTotals) -> Result<(), Memory>
     requires kept { IsKept rows.old.items }
     requires limits { InLimits (single key totals) }
@@ -114,7 +114,7 @@ pub(crate) fn join_one(rows: &mut Vec<Row>, key: TotalKey, totals: CallTotals) -
     Ok(())
 }
 
-// Counts one more of these calls at a key, and answers the new total.
+// Counts one more of these calls at a key, and returns the new total.
 pub(crate) fn raise_one(rows: &mut Vec<Row>, key: TotalKey, calls: Calls) -> Result<u64, TotalFault>
     requires kept { IsKept rows.old.items }
     requires site { IsSite key.site }

@@ -10,8 +10,7 @@ use dots::SiteId;
 use std::cmp::Ordering;
 use std::marker::Model;
 
-/// Whose total it is: a site, and the number of a queue. Keys are ordered by site, then by queue (this
-/// project's own).
+/// The key of a total: a site, and the number of a queue. Keys are ordered by site, then by queue.
 #[derive(Clone, Copy, Debug, PartialEq, Eq)]
 pub struct TotalKey {
     site: SiteId,

@@ -12,8 +12,8 @@ use dots::{MOST_CALLS, QUEUES, SITES, SiteId};
 use std::alloc::Global;
 use std::marker::Model;
 
-/// The running totals of all sites: for each site and queue how many calls were completed and how many
-/// abandoned (RR-7506's grow-only counter). A site without an entry in a queue has two zeros there.
+/// The running totals of all sites: for each site and queue the numbers of completed and abandoned calls
+/// (RR-7506's grow-only counter). A site without an entry in a queue has two zeros there.
 #[derive(Drop)]
 pub struct Totals {
     rows: Vec<Row>,
@@ -38,7 +38,7 @@ impl Model for Totals {
 }
 
 impl Totals {
-    /// Nothing counted yet. It takes no memory.
+    /// Nothing counted yet. Takes no memory.
     pub fn new(alloc: Global) -> Totals
         ensures { result.entries ≡ map.empty }
     {
@@ -47,8 +47,8 @@ impl Totals {
         }
     }
 
-    /// How many calls of a site in a queue were completed and how many abandoned, each at most
-    /// 1,000,000,000. It takes no memory.
+    /// The numbers of completed and abandoned calls of a site in a queue, each at most 1,000,000,000. Takes
+    /// no memory.
     pub fn of(&self, site: SiteId, queue: u16) -> CallTotals
         ensures value { result ≡ totals_of self.now.entries site queue }
         ensures limit { (result.completed ≤ MOST_CALLS) × (result.abandoned ≤ MOST_CALLS) }
@@ -56,8 +56,8 @@ impl Totals {
         row_totals(&self.rows, TotalKey::new(site, queue))
     }
 
-    /// How many calls of a queue were completed and how many abandoned at all sites together: the sums of
-    /// their totals, each at most 64,000,000,000. It takes no memory.
+    /// The numbers of completed and abandoned calls of a queue at all sites together: the sums of their
+    /// totals, each at most 64,000,000,000. Takes no memory.
     pub fn sum(&self, queue: u16) -> CallTotals
         ensures value { result ≡ sum_of self.now.entries queue }
         ensures limit { (result.completed ≤ SITES * MOST_CALLS)
@@ -79,7 +79,7 @@ impl Totals {
         sum
     }
 
-    // As `of`, with the place of the entry, which is looked for at a guessed place first.
+    // The totals of a site in a queue, with the place of the entry. A guessed place is tried first.
     fn of_near(&self, site: SiteId, queue: u16, guess: usize) -> (CallTotals, usize)
         ensures value { result.0 ≡ totals_of self.now.entries site queue }
         ensures limit { (result.0.completed ≤ MOST_CALLS) × (result.0.abandoned ≤ MOST_CALLS) }
@@ -87,7 +87,7 @@ impl Totals {
         row_totals_near(&self.rows, TotalKey::new(site, queue), guess)
     }
 
-    /// The entries by site, then by queue, none of two zeros. It takes no memory.
+    /// The entries by site, then by queue, none of two zeros. Takes no memory.
     pub fn iter(&self) -> Iter<'_>
         ensures entries { result ≡ map.entries self.now.entries }
         ensures limits { All (λ entry. IsTotal entry.0 entry.1) (map.entries self.now.entries) }
@@ -96,23 +96,23 @@ impl Totals {
         Iter::new(&self.rows)
     }
 
-    /// Whether nothing is counted yet. It takes no memory.
+    /// Whether nothing is counted yet. Takes no memory.
     pub fn is_empty(&self) -> bool
         ensures { IsTrue result ↔ (self.now.entries ≡ map.empty) }
     {
         self.rows.is_empty()
     }
 
-    /// Whether both have the same entries. It takes no memory.
+    /// Whether both have the same entries. Takes no memory.
     pub fn same(&self, other: &Totals) -> bool
         ensures { IsTrue result ↔ (self.now.entries ≡ other.now.entries) }
     {
         same_rows(&self.rows, &other.rows)
     }
 
-    /// Counts one more of these calls at a site in a queue, and answers the new total. Faults, in order,
-    /// each of which changes nothing: `TotalFull` exactly where the total is 1,000,000,000; `Memory`, for a
-    /// first entry that there is no room for.
+    /// Counts one more of these calls at a site in a queue, and returns the new total. Errors, in order, each
+    /// of which changes nothing: `TotalFull` exactly where the total is 1,000,000,000; `Memory`, for a first
+    /// entry without room.
     pub fn raise(&mut self, site: SiteId, queue: u16, calls: Calls) -> Result<u64, TotalFault>
         requires { queue < QUEUES }
         ensures value { IfOk result (λ total. total
@@ -129,9 +129,9 @@ impl Totals {
         raise_one(&mut self.rows, TotalKey::new(site, queue), calls)
     }
 
-    /// Joins in one entry: the greater of each number is kept, and two zeros are no entry. The queue's number
-    /// is at most 255, and each of the totals at most 1,000,000,000. Where there is no memory for a new
-    /// entry, nothing changes.
+    /// Joins one entry: each number becomes the greater of both, and two zeros are no entry. The queue's
+    /// number is at most 255, and each of the totals at most 1,000,000,000. Fails only when out of memory for
+    /// a new entry, and then changes nothing.
     pub fn reach(&mut self, site: SiteId, queue: u16, totals: CallTotals) -> Result<(), Memory>
         requires queue { queue < QUEUES }
         requires completed { totals.completed ≤ MOST_CALLS }
@@ -146,8 +146,8 @@ impl Totals {
         join_one(&mut self.rows, TotalKey::new(site, queue), totals)
     }
 
-    /// Reserves room for all that the others have and these lack, and changes no total. The one fault is want
-    /// of memory.
+    /// Reserves room for every entry that only the others have, and changes no total. Fails only when out of
+    /// memory.
     pub fn prepare(&mut self, other: &Totals) -> Result<(), Memory>
         ensures ok { OnOk result (HasRoomFor self.new other.now.entries) }
         ensures unchanged { self.new.entries ≡ self.old.entries }
@@ -158,15 +158,15 @@ impl Totals {
         self.rows.reserve(missing)
     }
 
-    /// Whether there is room for all that the others have and these lack, so that `absorb` can take them. It
-    /// takes no memory.
+    /// Whether there is room for every entry that only the others have, so that `absorb` can join them. Takes
+    /// no memory.
     pub fn prepared(&self, other: &Totals) -> bool
         ensures { IsTrue result ↔ HasRoomFor self.now other.now.entries }
     {
         count_missing(&self.rows, &other.rows) <= self.rows.capacity() - self.rows.len()
     }
 
-    /// Joins the others in: the greater of each number is kept. There is room for them (`prepared`), so it
+    /// Joins the others: each number becomes the greater of both. There is room for them (`prepared`), so it
     /// takes no memory and can't fail.
     pub fn absorb(&mut self, other: &Totals)
         requires { HasRoomFor self.old other.now.entries }
@@ -175,8 +175,8 @@ impl Totals {
         absorb_rows(&mut self.rows, &other.rows);
     }
 
-    /// Joins the others in: the greater of each number is kept. The one fault is want of memory, and then no
-    /// total is changed.
+    /// Joins the others: each number becomes the greater of both. Fails only when out of memory, and then
+    /// changes no total.
     pub fn join(&mut self, other: &Totals) -> Result<(), Memory>
         ensures ok { OnOk result (self.new.entries ≡ join_of self.old.entries other.now.entries) }
         ensures err { OnErr result (self.new.entries ≡ self.old.entries) }
@@ -187,7 +187,7 @@ impl Totals {
         Ok(())
     }
 
-    /// The totals once more. The one fault is want of memory.
+    /// Returns a copy. Fails only when out of memory.
     pub fn copy(&self) -> Result<Totals, Memory>
         ensures { IfOk result (λ copy. copy.entries ≡ self.now.entries) }
     {

@@ -47,7 +47,7 @@ lists_of {G = G} outputs = map (λ (output : WorkOutput G). output.receipts.item
 abbrev pub faults_of : {G : Type 0} → List (WorkOutput G) → List (Option DeskFault)
 faults_of {G = G} outputs = map (λ (output : WorkOutput G). output.fault) outputs
 
--- where there is no first fault there is none
+-- if there is no first fault, no output has one
 none_first : {G : Type 0} (outputs : List (WorkOutput G)) → first_fault (faults_of outputs) ≡ None → All (λ (output : WorkOutput G). output.fault ≡ None) outputs
 none_first {G} [] is = All-nil (λ (output : WorkOutput G). output.fault ≡ None)
 none_first {G} (o ∷ os) is = All-cons (λ (output : WorkOutput G). output.fault ≡ None) o os (none_before o.fault (first_fault (faults_of os)) is)
@@ -234,16 +234,16 @@ tasks_long {S} {G} names works all tasks site of at =
     let long : length of.tasks.items ≡ length is.links.from.items + 2 = ap length is.tasks_are ∙ (let e = mapped_long {B = WorkTask G} Take is.links.from.items in omega (arith, e)) in
     let others = is.others in omega (arith, long, of.tasks.ok.0, others)
 
--- so it has some
+-- each site has at least one task
 pub all_some : {S G : Type 0} (names : List (List ℕ)) (works : List (SiteWork G)) (all : List (SiteTasks S (WorkTask G))) → HaveTasks names works all → All (λ (of : SiteTasks S (WorkTask G)). 1 ≤ vec_len of.tasks) all
 all_some {S} {G} names works all tasks = all_got (λ (of : SiteTasks S (WorkTask G)). 1 ≤ vec_len of.tasks) all (λ site of at. let long = tasks_long names works all tasks site of at in omega (arith, long))
 
--- and few
+-- each site has few tasks
 pub all_few : {S G : Type 0} (names : List (List ℕ)) (works : List (SiteWork G)) (all : List (SiteTasks S (WorkTask G))) → HaveTasks names works all → length works ≤ 8
     → All (λ (of : SiteTasks S (WorkTask G)). vec_len of.tasks ≤ MOST_PASSES) all
 all_few {S} {G} names works all tasks few = all_got (λ (of : SiteTasks S (WorkTask G)). vec_len of.tasks ≤ MOST_PASSES) all (λ site of at. let long = tasks_long names works all tasks site of at in omega (arith, long, few))
 
--- and few outputs
+-- each site has few outputs
 pub outputs_few : {S G : Type 0} (Called : G → ℕ → G → Type 0) (names : List (List ℕ)) (works : List (SiteWork G)) (all : List (SiteTasks S (WorkTask G))) (ends : List (SiteOutput (WorkOutput G)))
     → HaveTasks names works all → HaveEnded (Gives Called) MOST_STEPS all ends → length ends ≡ length works → length works ≤ 8
     → All (λ (end : SiteOutput (WorkOutput G)). vec_len end.outputs ≤ MOST_RUN_PASSES) ends

@@ -94,7 +94,7 @@ pub none_before : {X : Type 0} (a b : Option X) → option_or a b ≡ None → a
 none_before None b is = refl
 none_before (Some x) b is = is
 
--- nor one that another hides
+-- if no fault is the first, the second of two is none
 pub none_behind : {X : Type 0} (a b : Option X) → option_or a b ≡ None → b ≡ None
 none_behind None b is = is
 none_behind (Some x) b is = absurd (cc)

@@ -1,4 +1,4 @@
--- What becomes of a site whose threads are run (this project's own).
+-- The results of a site whose threads are run.
 use Rattle.std.specs.Prelude.{ℕ, ◌≡◌, ◌≤◌, ◌+◌, [], ◌∷◌, List, Option, None, Some, length, map, slice_get, slice_index_or, vec_len}
 use Rattle.std.specs.Option.{option_or}
 use Rattle.std.specs.Global.{Vec}
@@ -14,12 +14,12 @@ use Rattle.site_worker.specs.Gates.{IsGatedBy}
 use Rattle.site_worker.specs.Working.{AnswerFront, AreInOrder, AreOfPasses, ArePossibleSomewhere, HaveSent, HaveTaken, receipts_in}
 use Rattle.status_report.specs.declared.asks.Ask.{Ask}
 
--- as many steps may stand in a journal as in any; where none was dropped, it began from a site that knew nothing
+-- a journal has the greatest limit of steps; if no step was dropped, it began from a new site
 pub record HasBegun (journal : JournalState) : Type 0 where
   pub limit : journal.limit ≡ MOST_STEPS
   pub new : journal.start ≡ 0 → IsNew journal.base
 
--- the receipts of the first pass answer asks in their order, all of them unless there was a fault
+-- the receipts of the first pass answer asks in order, all of them unless there was a fault
 pub record HasAnsweredAsks (site : ℕ) (names : List (List ℕ)) (asks : List Ask) (lists : List (List Receipt)) (fault : Option DeskFault) : Type 0 where
   pub front : AnswerFront site names asks (list_of lists 0)
   pub all : fault ≡ None → length (list_of lists 0) ≡ length asks
@@ -61,7 +61,7 @@ pub record HasRun (site : ℕ) (names : List (List ℕ)) (number : ℕ) (asks : 
   pub pumped : HavePumped lists fault
   pub faults : HasFirstFault asks lists fault
 
--- sites have run, one for each of these works and all of these queues: each has come to its end with its work's asks, and its work's gate was
+-- sites have run, one for each of these works and all of these queues: each has done its work's asks, and its work's gate was
 -- called for its receipts
 pub record HaveRun {G : Type 0} (Called : G → ℕ → G → Type 0) (names : List (List ℕ)) (works : Vec (SiteWork G)) (ends : Vec (SiteEnd G)) : Type 0 where
   pub number : vec_len ends ≡ vec_len works

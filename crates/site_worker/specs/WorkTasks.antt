@@ -1,4 +1,4 @@
--- What the threads of a site do, and what they give (this project's own).
+-- The tasks of a site's threads, and their results.
 use Rattle.std.specs.Prelude.{ℕ, ◌≡◌, ◌+◌, List, ◌∷◌, None, Some, length, map, slice_get}
 use Rattle.replica.specs.Deeds.{IsNew}
 use Rattle.site_links.specs.declared.linking.LinkEnds.{LinkEnds}
@@ -14,8 +14,7 @@ use Rattle.site_worker.specs.Gates.{IsGated}
 use Rattle.site_worker.specs.Runs.{first_fault}
 use Rattle.site_worker.specs.Working.{AnswerFront, HaveSent, HaveTaken}
 
--- the task that asks has answers, of all asks unless it has a fault, and gives its gate back, called for
--- each
+-- the task that asks has answers, of all asks unless it has a fault, and returns its gate, called for each
 pub record HasAsked {G : Type 0} (Called : G → ℕ → G → Type 0) (site : ℕ) (names : List (List ℕ)) (asks : List Asked) (gate : G) (output : WorkOutput G) : Type 0 where
   pub front : AnswerFront site names asks output.receipts.items
   pub all : output.fault ≡ None → length output.receipts.items ≡ length asks
@@ -39,8 +38,8 @@ pub record IsTasksOf {G : Type 0} (sites : ℕ) (work : SiteWork G) (tasks : Lis
   pub others : length links.from.items + 1 ≡ sites
   pub tasks_are : tasks ≡ tasks_for work links
 
--- `given` is what the site of the number `site`, one of `sites`, is launched with: a replica that knows
--- nothing and has the queues `names`, and the tasks of `work`
+-- `given` is the input of the site of the number `site`, one of `sites`: a new replica with the queues `names`, and the tasks of
+-- `work`
 pub record IsLaunchOf {S G : Type 0} (sites : ℕ) (names : List (List ℕ)) (site : ℕ) (work : SiteWork G) (given : SiteTasks S (WorkTask G)) : Type 0 where
   pub number : given.replica.site ≡ site
   pub names_are : given.replica.names ≡ names
@@ -56,14 +55,14 @@ pub record HaveTasks {S G : Type 0} (names : List (List ℕ)) (works : List (Sit
 abbrev pub FirstHasGate : {G : Type 0} → List (WorkOutput G) → Type 0
 FirstHasGate {G} outputs = (output : WorkOutput G) × (gate : G) × (slice_get outputs 0 ≡ Some output) × (output.gate ≡ Some gate)
 
--- a site ends with what its tasks gave
+-- a site's end has the results of its tasks
 pub record IsRunOf {G : Type 0} (end : SiteOutput (WorkOutput G)) (run : SiteEnd G) : Type 0 where
   pub journal_is : run.journal ≡ end.journal
   pub lists : map (λ list. list.items) run.receipts.items ≡ map (λ (output : WorkOutput G). output.receipts.items) end.outputs.items
   pub fault_is : run.fault ≡ first_fault (map (λ (output : WorkOutput G). output.fault) end.outputs.items)
   pub gate_is : (output : WorkOutput G) (gate : G) → slice_get end.outputs.items 0 ≡ Some output → output.gate ≡ Some gate → run.gate ≡ gate
 
--- sites end with what their tasks gave
+-- the ends of sites have the results of their tasks
 pub record AreRunsOf {G : Type 0} (ends : List (SiteOutput (WorkOutput G))) (runs : List (SiteEnd G)) : Type 0 where
   pub number : length runs ≡ length ends
   pub each : (site : ℕ) (end : SiteOutput (WorkOutput G)) (run : SiteEnd G) → slice_get ends site ≡ Some end → slice_get runs site ≡ Some run → IsRunOf end run

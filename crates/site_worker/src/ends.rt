@@ -1,4 +1,4 @@
-//! What sites are launched with, and what they end with.
+//! The inputs and the results of sites.
 ghost use Rattle.std.specs.List.{All};
 ghost use Rattle.std.specs.Prelude.{◌≡◌, ◌≤◌, IfOk, vec_capacity, vec_len};
 ghost use Rattle.replica.specs.Deeds.{IsNew};
@@ -16,7 +16,7 @@ use site_links::{LinkEnds, SiteLinks};
 use site_threads::{SiteOutput, SiteTasks};
 use std::alloc::Global;
 
-// What a site of this number and these queues is launched with: it knows nothing, and does this work.
+// The input of a site of this number with these queues: a new replica, and this work.
 fn launch_of<G: Gate + Send + Drop>(
     alloc: Global,
     number: SiteId,
@@ -42,7 +42,7 @@ fn launch_of<G: Gate + Send + Drop>(
     })
 }
 
-// What all sites are launched with, with the numbers 0, 1 and so on and these queues, and a rope for each.
+// The inputs of all sites, with the numbers 0, 1 and so on and these queues, and a rope for each.
 pub(crate) fn all_tasks<G: Gate + Send + Drop>(
     alloc: Global,
     list: &QueueList,
@@ -85,11 +85,11 @@ pub(crate) fn all_tasks<G: Gate + Send + Drop>(
     Ok(all)
 }
 
-// How many passes a site has at most: one that asks, one that sends, and one for each of 7 others.
+// The most passes of a site: one that asks, one that sends, and one for each of 7 others.
 const MOST_RUN_PASSES: usize = 9;
 
-// Room for what sites end with: for the ends, and for each site for the receipts of its passes. It
-// is made before the sites run, so that nothing that they did is lost.
+// Room for the results of sites: for the ends, and for each site for the receipts of its passes. It is
+// reserved before the sites run, so that no result is lost.
 #[derive(Drop)]
 pub(crate) struct EndRoom<G: Drop> {
     pub ends: Vec<SiteEnd<G>>,
@@ -126,7 +126,7 @@ pub(crate) fn room_for<G: Drop>(alloc: Global, sites: usize) -> Result<EndRoom<G
     Ok(EndRoom { ends, receipts })
 }
 
-// What a site ends with, from what its tasks gave. Its fault is that of the first task that has one.
+// The end of a site, from the results of its tasks. Its fault is that of the first task that has one.
 fn run_of<G: Gate + Send + Drop>(
     end: SiteOutput<WorkOutput<G>>,
     receipts: Vec<Vec<Receipt>>,
@@ -163,7 +163,7 @@ fn run_of<G: Gate + Send + Drop>(
     }
 }
 
-// What sites end with, from what their tasks gave.
+// The ends of sites, from the results of their tasks.
 pub(crate) fn runs_of<G: Gate + Send + Drop>(
     ends: Vec<SiteOutput<WorkOutput<G>>>,
     room: EndRoom<G>,

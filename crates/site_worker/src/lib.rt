@@ -1,7 +1,7 @@
-//! Sites as threads: each asks, sends its frames and takes those of the others, all at once.
+//! Sites as threads: each asks, sends its frames and takes those of the others, all concurrently.
 //!
 //! A site has a thread that asks, a thread that cuts and sends, and for each other site a thread that
-//! takes what that site sends. They call the site's desk, each by a pass of its own. [`run_sites`]
+//! takes the frames of that site. They call the site's desk, each by a pass of its own. [`run_sites`]
 //! returns each site's journal, and the receipts of each of its threads.
 #![tactic(auto)]
 

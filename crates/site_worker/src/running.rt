@@ -20,7 +20,7 @@ use std::alloc::Global;
 use std::sync::Wait;
 use std::thread::Threads;
 
-/// How many sites may run at once.
+/// The most sites that may run concurrently.
 pub const MOST_RUN_SITES: usize = 8;
 
 // The fault of a run whose sites could not be started.
@@ -33,7 +33,7 @@ fn run_fault_of(fault: LaunchFault) -> RunFault
     }
 }
 
-// Runs the sites of works, which these links join.
+// Runs the sites of works, with these links between them.
 fn run_works<R: Threads + Wait + Sync, G: Gate + Send + Drop>(
     rt: &R,
     alloc: Global,
@@ -70,22 +70,22 @@ fn run_works<R: Threads + Wait + Sync, G: Gate + Send + Drop>(
     }
 }
 
-/// Runs sites at once, one for each work, with the numbers 0, 1 and so on and the queues of `list`, and
-/// returns when all have ended. A gate that doesn't return keeps it from that. Each site has threads
-/// of its own:
+/// Runs sites concurrently, one for each work, with the numbers 0, 1 and so on and the queues of
+/// `list`, and returns when all have ended. A gate that doesn't return keeps it from returning. Each
+/// site has threads of its own:
 ///
-/// - one does its asks in their order, and calls its gate at each with the ask's place, from 0;
-/// - one cuts after each answered ask, and sends as the site's plan says;
-/// - one for each other site takes what that site sends.
+/// - one runs its asks in order, and calls its gate at each with the ask's place, from 0;
+/// - one cuts after each answered ask, and sends as the site's plan directs;
+/// - one for each other site takes the frames of that site.
 ///
-/// These have the site's passes 0, 1, and from 2 on in the order of the others' numbers. A journal may
-/// have 1,000,000 steps. A thread that a fault stops gives up the ends of its links, and the bytes of a
-/// take that was refused. The others go on, and the site's end has the fault of the first pass that
-/// has one.
+/// The first two have the site's passes 0 and 1, the others those from 2 on, in the order of the other
+/// sites' numbers. A journal holds at most 1,000,000 steps. A thread that a fault stops drops the ends
+/// of its links, and the bytes of a take that was refused. The others go on, and the site's end has the
+/// fault of the first pass that has one.
 ///
 /// Errors, in order: 1 `BadSites`, exactly if there are no works, or more than 8; 2 `NoThread`, if the
-/// system could not start a thread; 3 `Memory`. With `NoThread` and `Memory` no ask is done, and the
-/// works are dropped (this project's own).
+/// system could not start a thread; 3 `Memory`. With `NoThread` and `Memory` no ask is run, and the
+/// works are dropped.
 pub fn run_sites<R: Threads + Wait + Sync, G: Gate + Send + Drop>(
     rt: &R,
     alloc: Global,

@@ -1,4 +1,4 @@
-//! What the threads of a site do.
+//! The tasks of a site's threads.
 ghost use Rattle.std.specs.Prelude.{◌≡◌, ◌+◌, ◌<◌, ◌≤◌, IfOk, vec_capacity, vec_len};
 ghost use Rattle.std.specs.List.{insert};
 ghost use Rattle.site_worker.specs.WorkTasks.{tasks_for};
@@ -15,18 +15,18 @@ use status_report::Ask;
 use std::alloc::Global;
 use std::sync::Wait;
 
-// What a thread of a site does.
+// The task of one thread of a site.
 #[derive(Drop)]
 pub(crate) enum WorkTask<G: Drop> {
-    // It asks these in their order, with this gate at each.
+    // Asks these in order, with this gate at each.
     Ask(Vec<Ask>, G),
-    // It cuts, and sends on these links as the plan says.
+    // Cuts, and sends on these links as the plan directs.
     Send(Vec<LinkSender>, LinkPlan),
-    // It takes what this link brings.
+    // Takes the frames of this link.
     Take(LinkReceiver),
 }
 
-// What a thread of a site gives: its receipts in their order, the fault that stopped it, if any, and
+// The result of a thread of a site: its receipts in order, the fault that stopped it, if any, and
 // the gate of the thread that asks.
 #[derive(Drop)]
 pub(crate) struct WorkOutput<G: Drop> {

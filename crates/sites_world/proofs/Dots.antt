@@ -20,7 +20,7 @@ use Rattle.general_lemmas.proofs.TruthTables.{equal_of}
 pub asserts_in : (o : Operation) (dot : Dot) (m : Member) → Contains (asserted_by o) (dot, m) → asserts dot o ≡ true
 asserts_in o dot m here = any_in (λ p. is_dot dot p.0) (asserted_by o) (dot, m) here (ap is_eq (tied_itself dots_total dot))
 
--- and so does its knowledge
+-- a dot that a knowledge's list asserts is asserted by the knowledge
 pub is-asserted : (k : Knowledge) (dot : Dot) (m : Member) → Contains (all_asserted k) (dot, m) → is_asserted k dot ≡ true
 is-asserted k dot m here =
     let o = in_part asserted_by k (dot, m) here in any_in (asserts dot) k o.0 o.1 (asserts_in o.0 dot m o.2)
@@ -35,7 +35,7 @@ pair_of k dot is =
 
 -- ---- members
 
--- where a dot is of one member, that is the one that is told
+-- where a dot is of one member, `member_of` gives that member
 pub member_is : (k : Knowledge) (dot : Dot) (m : Member) → Contains (all_asserted k) (dot, m)
     → ((n : Member) → Contains (all_asserted k) (dot, n) → n ≡ m) → member_of k dot ≡ Some m
 member_is k dot m here one = by (member_of k dot) refl (member_some k dot ∙ is-asserted k dot m here)

@@ -28,11 +28,11 @@ use Rattle.sites_world.proofs.TakenEntries.{taken_gives}
 level : (n : ℕ) → n ≤ n
 level n = omega arith
 
--- or than the next one
+-- no number is greater than the next one
 next_level : (n : ℕ) → n ≤ suc n
 next_level n = omega arith
 
--- and it is so from one to the next
+-- the order of numbers is transitive
 level_through : (a b c : ℕ) → a ≤ b → b ≤ c → a ≤ c
 level_through a b c p q = omega (arith, p, q)
 
@@ -52,7 +52,7 @@ ask_more site names s (asked_command command) = by (meaning site names (site_vie
     by (Makes o) = (second_part (o ∷ []) s.known, level s.frames)
     by (Refused refusal) = itself_on s
 
--- so does a frame that is made
+-- a frame that is made leaves what the site knew
 frame_more : (s : SiteKnowledge) (frame buffer : Knowledge) → KnowsOn s (after_frame s frame buffer).0
 frame_more s frame buffer = by (nat_lt MOST_COUNT (suc s.frames))
   where
@@ -65,7 +65,7 @@ cut_more : (s : SiteKnowledge) (buffer : Knowledge) → KnowsOn s (cut s buffer)
 cut_more s [] = itself_on s
 cut_more s (o ∷ os) = frame_more s (o ∷ os) []
 
--- and a frame that is taken
+-- a take leaves what the site knew
 take_more : (s : SiteKnowledge) (frame : Knowledge) → KnowsOn s (take s frame).0
 take_more s frame = by (nat_lt MOST_LIVE (set.len (visible_dots (frame ++ s.known)))) (nat_lt MOST_RUNS (run_count (known_dots (frame ++ s.known))))
   where
@@ -100,7 +100,7 @@ grown_through w mid after one two = record {
   pool = two.pool ∙ ap (λ pool. pool ++ two.added) one.pool ∙ append_assoc w.pool one.added two.added;
 }
 
--- so is one in which a site knows more
+-- a world in which a site knows more has grown
 grown_at : (w : World) (at : ℕ) (s : SiteKnowledge) (h : Happening) → slice_get w.sites at ≡ Some s → KnowsOn s h.site
     → HasGrown w (record { sites = slice_set w.sites at h.site; pool = w.pool ++ h.added })
 grown_at w at s h is more = record {

@@ -1,4 +1,4 @@
--- Whatever comes of events, states grow: it follows from the conditions of the steps alone.
+-- States grow with every event: it follows from the conditions of the steps alone.
 use Rattle.std.proofs.Common.{◌≡◌, ◌≤◌, ◌||◌, ℕ, suc, true, List, [], ◌∷◌, ◌++◌, append-nil, append_assoc, length, slice_get, slice_set, Option, Some, None, Result, Ok, Err, refl, sym, ap, subst, ◌∙◌, arith}
 use Rattle.std.specs.FinMap as map
 use Rattle.std.specs.FinSet as set
@@ -52,7 +52,7 @@ alike_said d e same = record {
 said_itself : (d : DeltaState) → IsSaidBy d d
 said_itself d = alike_said d d (record { conditions = λ dot. refl; known = refl; totals = refl })
 
--- so does one that is unchanged
+-- an unchanged delta says all that it said
 unchanged_said : (d e : DeltaState) → deltas.IsUnchanged d e → IsSaidBy d e
 unchanged_said d e same = alike_said d e (record { conditions = at; known = sym same.members.known; totals = sym same.totals })
   where
@@ -217,7 +217,7 @@ entry_grows : (found : Option Frame) (old new : SiteState) (o : Outcome) → Com
 entry_grows None old new o comes = equal_grows old new comes.1
 entry_grows (Some frame) old new o comes = delta_grows old new comes.0 o comes.2
 
--- whatever comes of an event
+-- growth at the site of an event, whatever its outcome
 pub at_grows : (pool : List Frame) (old new : SiteState) (e : Event) (o : Outcome) (added : List Frame) → ComesAt pool old e o new added → SiteGrows old new
 at_grows pool old new (event.Ask site asked) o added comes = ask_grows old new asked o comes.0
 at_grows pool old new (event.Cut site) o added comes = cut_grows (length pool) old new o added comes

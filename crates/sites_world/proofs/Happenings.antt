@@ -173,7 +173,7 @@ outcomes_push (p ∷ os) o = by (is_done p) (outcomes_push os o)
 abbrev Goes : List (List ℕ) → List Event → List Outcome → Event → Outcome → World → Type 0
 Goes names es os e o v = are_there names v es os ≡ true → (is_done o ≡ false → is_there (run names v (done_of es os)).0 e ≡ true) → are_there names v (es ++ e ∷ []) (os ++ o ∷ []) ≡ true
 
--- where memory was wanting for one event more there are its site and its entry too
+-- if one further event ran out of memory, its site and its entry are there too
 there_push : (names_of_queues : List (List ℕ)) (w : World) (es : List Event) (os : List Outcome) (e : Event) (o : Outcome) → length os ≡ length es → are_there names_of_queues w es os ≡ true
     → (is_done o ≡ false → is_there (run names_of_queues w (done_of es os)).0 e ≡ true) → are_there names_of_queues w (es ++ e ∷ []) (os ++ o ∷ []) ≡ true
 there_push names_of_queues w [] [] e o same all last = by (is_done o) refl

@@ -16,7 +16,7 @@ use Rattle.sites_world.specs.WorldStates.{HasHappened, IsWorld, StandsForWorld, 
 use Rattle.sites_world.proofs.Happenings.{reached_more}
 use Rattle.sites_world.proofs.WithinLimits.{events_keep_limits, new_within}
 
--- what an event asks for whose copy memory is wanting, which no command is, has values within their limits
+-- an event whose copy runs out of memory, which no command's does, has values within their limits
 pub status_within : (e : Event) → IsAsk e → ((site : ℕ) (command : Command) → e ≡ event.Ask site (asked_command command) → ⊥) → HasValuesWithinLimits e
 status_within (event.Ask site (asked_command command)) is status = absurd (status site command refl)
 status_within (event.Ask site (Status request)) is status = tt
@@ -55,7 +55,7 @@ world_after_event names_of_queues sites new_sites pool new_pool e o is count val
 new_reached : (names_of_queues : List (List ℕ)) (sites : ℕ) → IsReached names_of_queues sites (new_world sites)
 new_reached names_of_queues sites = record { events = []; is = refl }
 
--- so what stands for it is one that events lead to
+-- states that stand for a new world are those of a reached one
 pub new_is_world : (names_of_queues : List (List ℕ)) (sites : List SiteState) (pool : List Frame) (count : ℕ) → AreQueues names_of_queues → count ≤ SITES → length sites ≡ count
     → StandsForWorld (record { names = names_of_queues; sites = sites; pool = pool }) (new_world count) → IsWorld (record { names = names_of_queues; sites = sites; pool = pool })
 new_is_world names_of_queues sites pool count queues few long stands = record {

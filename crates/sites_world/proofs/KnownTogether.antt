@@ -28,7 +28,7 @@ together names_of_queues w k l has ik il =
     consistent_part names_of_queues (length w.sites) has.made (k ++ l) has.is.history
     (both_part k l has.made (part_of names_of_queues w has.made k has.is ik) (part_of names_of_queues w has.made l has.is il))
 
--- and each is consistent
+-- each knowledge of a world is consistent
 pub alone : (names_of_queues : List (List ℕ)) (w : World) (k : Knowledge) → HasHistory names_of_queues w → IsIn w k → IsConsistent k
 alone names_of_queues w k has ik = consistent_part names_of_queues (length w.sites) has.made k has.is.history (part_of names_of_queues w has.made k has.is ik)
 
@@ -47,7 +47,7 @@ module _ (names_of_queues : List (List ℕ)) (sites : ℕ) (h k : Knowledge) (ma
       let named = made.older p.0 other dot m (part p.0 p.1) p.2 (asserted_part k h part (dot, m) (member_in k dot m one.member)) same less in
       true≢false (sym (any_in (names dot) k p.0 p.1 named) ∙ (visible_parts k dot one.visible).1)
 
-  -- so there is at most one
+  -- a member has at most one visible dot of a site
   pub one_dot : (dot other : Dot) → IsVisibleDotOf k m dot → IsVisibleDotOf k m other → dot.site ≡ other.site → dot ≡ other
   one_dot dot other one two same = by (three dot.count other.count)
     where

@@ -38,7 +38,7 @@ get_set_same [] i x h = absurd (omega (arith, h))
 get_set_same (y ∷ ys) zero x h = refl
 get_set_same (y ∷ ys) (suc i) x h = get_set_same ys i x (omega (arith, h))
 
--- and the others stay
+-- the elements at other places stay
 pub get_set_other : {X : Type 0} (xs : List X) (i j : ℕ) (x : X) → (j ≡ i → ⊥) → slice_get (slice_set xs i x) j ≡ slice_get xs j
 get_set_other [] i j x apart = refl
 get_set_other (y ∷ ys) zero zero x apart = absurd (apart refl)
@@ -94,7 +94,7 @@ module _ {X Y : Type 0} (R : ℕ → X → Y → Type 0) (xs : List X) (ys : Lis
       by None e = absurd (past e)
       by (Some y) e = (y, e, c.each i x y h e)
 
-  -- where there is none, there is none
+  -- where one list has no element, the corresponding one has none
   pub correspond_none : (i : ℕ) → length xs ≤ i → slice_get ys i ≡ None
   correspond_none i past = slice_get_past ys i (let same = c.lengths in omega (arith, past, same))
 
@@ -122,7 +122,7 @@ module _ {X Y : Type 0} (R : ℕ → X → Y → Type 0) (xs : List X) (ys : Lis
           subst (λ n. R n a b) (sym e) (subst (λ u. R i u b) first (subst (R i x) second holds))
       at j a b ha hb (inr apart) = c.each j a b (sym (get_set_other xs i j x apart) ∙ ha) (sym (get_set_other ys i j y apart) ∙ hb)
 
-  -- or put at the end
+  -- corresponding elements are appended
   pub correspond_push : (x : X) (y : Y) → R (length xs) x y → Correspond R (xs ++ x ∷ []) (ys ++ y ∷ [])
   correspond_push x y holds = record {
     lengths = length-append xs (x ∷ []) ∙ ap (λ n. n + 1) c.lengths ∙ sym (length-append ys (y ∷ []));

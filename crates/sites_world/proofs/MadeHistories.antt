@@ -40,7 +40,7 @@ own_time site s stamp e is =
     let time = ap (λ x. x.time) (one_some s stamp e) in
     grind (arith, nat_tests, same, time, is)
 
--- and its time is used
+-- the time of an operation's own stamp is used
 pub stamped_time : (site : ℕ) (o : Operation) (stamp : Stamp) → stamp_of o ≡ Some stamp → stamp.site ≡ site → time_used site o ≡ stamp.time
 stamped_time site (Add dot member s penalty pause label older) stamp e is = own_time site s stamp e is
 stamped_time site (Write dots setting s older) stamp e is = own_time site s stamp e is

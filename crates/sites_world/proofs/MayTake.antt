@@ -126,7 +126,7 @@ module _ (names_of_queues : List (List ℕ)) (sites site : ℕ) (h : Knowledge) 
       let c = count_of at queue calls o.0 (let same = o.2 in omega (arith, some, same)) in
       made.counts at queue c.1.0 c.0 (subst (Contains h) c.1.1 (part o.0 o.1))
 
-  -- and so are its totals
+  -- the totals of a delta of the history are of queues in the list
   no_strange_total : (d : DeltaState) → IsDeltaOf d k → HasStrangeTotal (length names_of_queues) d.totals.entries → ⊥
   no_strange_total d is strange =
       let past = strange.strange in
@@ -138,7 +138,7 @@ module _ (names_of_queues : List (List ℕ)) (sites site : ℕ) (h : Knowledge) 
       same_totals : strange.totals ≡ record { completed = site_total k strange.key.site strange.key.queue Completed; abandoned = site_total k strange.key.site strange.key.queue Abandoned }
       same_totals = ap (λ o. unwrap_or o no_calls) (sym strange.counted) ∙ is.totals strange.key.site strange.key.queue
 
-  -- its dots of the site are of counts that the site has used
+  -- dots of the site in such a delta are of counts that the site has used
   no_dot_past : (d : DeltaState) → IsDeltaOf d k → HasDotPast site (greatest (count_used site) s.known) d.members.known → ⊥
   no_dot_past d is past =
       let dot : Dot = record { site = site; count = past.count } in

@@ -1,4 +1,4 @@
--- Events whose outcomes tell that nothing is changed leave what sites say, and the pool.
+-- Events with outcomes that change nothing leave what sites say, and the pool.
 use Rattle.std.proofs.Common.{◌≡◌, ℕ, true, List, [], ◌∷◌, ◌++◌, append-nil, length, slice_get, Option, Some, None, Result, Ok, Err, refl, sym, ap, subst, ◌∙◌, true≢false}
 use Rattle.std.specs.List.{AllByRecursion}
 use Rattle.delta.specs.DeltaStates as deltas
@@ -83,7 +83,7 @@ entry_nothing : (found : Option Frame) (old new : SiteState) (o : Outcome) → C
 entry_nothing None old new o comes nothing = equal_unchanged old new comes.1
 entry_nothing (Some frame) old new o comes nothing = delta_nothing old new comes.0 o comes.2 nothing
 
--- what tells so of an event leaves the site, and adds nothing
+-- an event with an outcome that changes nothing leaves its site, and adds no entry
 at_nothing : (pool : List Frame) (old new : SiteState) (e : Event) (o : Outcome) (added : List Frame) → ComesAt pool old e o new added → changes_nothing o ≡ true
     → replica.IsUnchanged old new × (added ≡ [])
 at_nothing pool old new (event.Ask site asked) o added comes nothing = (ask_nothing old new asked o comes.0 nothing, comes.1)
@@ -97,7 +97,7 @@ at_nothing pool old new (event.Take site place) o added comes nothing = (entry_n
 unchanged_itself : (w : WorldState) → IsUnchanged w w
 unchanged_itself w = record { names = refl; sites = sites_unchanged w.sites; pool = refl }
 
--- an event that tells so leaves what is said
+-- an event with an outcome that changes nothing leaves what the sites say
 leads_nothing : (from to : WorldState) (e : Event) (o : Outcome) → EventLeads from e o to → changes_nothing o ≡ true → IsUnchanged from to
 leads_nothing from to e o leads nothing = by (slice_get from.sites (site_of e)) refl leads
   where
@@ -147,7 +147,7 @@ world_through w mid to one two = record {
   pool = two.pool ∙ one.pool;
 }
 
--- events that tell so leave what is said
+-- events with outcomes that change nothing leave what the sites say
 pub all_nothing : (from to : WorldState) (events : List Event) (outcomes : List Outcome) → EventsLead from events outcomes to → AllByRecursion (λ o. changes_nothing o ≡ true) outcomes
     → IsUnchanged from to
 all_nothing from to [] [] all nothing = subst (IsUnchanged from) (sym all) (unchanged_itself from)

@@ -1,4 +1,4 @@
--- What comes of events by conditions is what comes of them in the world of operations.
+-- The conditions of events imply their meaning in the world of operations.
 use Rattle.std.proofs.Common.{◌≡◌, ◌<◌, ◌≤◌, inl, inr, ℕ, true, false, List, [], ◌∷◌, ◌++◌, append-nil, length, slice_get, slice_set, Option, Some, None, Result, Ok, Err, refl, sym, ap, subst, ◌∙◌, if◌then◌else◌, ◌&&◌, arith}
 use Rattle.std.specs.List.{All, AllByRecursion}
 use Rattle.std.proofs.lemmas.List.Elements.{recursion_from_All}
@@ -90,7 +90,7 @@ next_in_ranges old k frame queues left next may says = record {
 module _ (laws : StandForSteps) where
   -- ---- at one site
 
-  -- what comes of an ask is answered so
+  -- the conditions of an ask give its answer in the world of operations
   ask_told : (old new : SiteState) (s : SiteKnowledge) (asked : Ask) (o : Outcome) → StandsFor old s → ComesOfAsk old asked o new → IsAnsweredSo new s (answer_in old.site old.names s asked) o
   ask_told old new s (asked_command command) (Answered answer) stands (result, is, follows) =
       let after = laws.command old new s (change_of command) result stands follows in inl (ap Answered (is ∙ ap answer_of after.1), after.0)
@@ -112,7 +112,7 @@ module _ (laws : StandForSteps) where
     stands_still : new ≡ old → StandsFor new s
     stands_still same = subst (λ (t : SiteState). StandsFor t s) (sym same) stands
 
-    -- and no frame was made
+    -- no frame was made where the step made none
     framed_nothing : (after : SiteKnowledge × steps.Outcome) → after ≡ (s, steps.Nothing) → new ≡ old → added ≡ [] → IsFramedSo new s pool (pool ++ added) after (Cut (Ok None))
     framed_nothing after is same none =
         subst (λ x. IsFramedSo new s pool (pool ++ added) x (Cut (Ok None))) (sym is) (inl (refl, stands_still same, same_pool pool added none))
@@ -121,7 +121,7 @@ module _ (laws : StandForSteps) where
     framed_exhausted after is same none =
         subst (λ x. IsFramedSo new s pool (pool ++ added) x (Cut (Err Exhausted))) (sym is) (inl (refl, stands_still same, same_pool pool added none))
 
-    -- what comes of a cut is told so
+    -- the conditions of a cut give its outcome in the world of operations
     cut_told : (o : Outcome) → MayBeTaken old s.buffer → ComesOfCut (length pool) old o new added → IsFramedSo new s pool (pool ++ added) (step old.site old.names s steps.Cut) o
     cut_told (Cut (Ok None)) may (empty, same, none) = framed_nothing (step old.site old.names s steps.Cut) (laws.nothing old s stands empty) same none
     cut_told (Cut (Ok (Some place))) may (at, frame, is, deed) =
@@ -138,7 +138,7 @@ module _ (laws : StandForSteps) where
     cut_told NoSite may comes = absurd comes
     cut_told NoEntry may comes = absurd comes
 
-    -- and of a frame of all
+    -- the conditions of a whole give its outcome in the world of operations
     whole_told : (o : Outcome) → MayBeTaken old s.known → ComesOfWhole (length pool) old o new added → IsFramedSo new s pool (pool ++ added) (step old.site old.names s steps.Whole) o
     whole_told (Cut (Ok None)) may comes = absurd comes
     whole_told (Cut (Ok (Some place))) may (at, frame, is, deed) =
@@ -155,7 +155,7 @@ module _ (laws : StandForSteps) where
     whole_told NoSite may comes = absurd comes
     whole_told NoEntry may comes = absurd comes
 
-  -- and of a take
+  -- the conditions of a take give its outcome in the world of operations
   delta_told : (old new : SiteState) (s : SiteKnowledge) (d : DeltaState) (k : Knowledge) (o : Outcome) → StandsFor old s → IsDeltaOf d k → MayBeTaken old k → ComesOfDelta old d o new
       → IsTakenSo new s (steps.take s k) o
   delta_told old new s d k (Took (Ok u)) stands says may deed =
@@ -174,7 +174,7 @@ module _ (laws : StandForSteps) where
   delta_told old new s d k NoSite stands says may comes = absurd comes
   delta_told old new s d k NoEntry stands says may comes = absurd comes
 
-  -- what comes of an event at a site has happened there
+  -- the conditions of an event at a site give its effect in the world of operations
   module _ (old new : SiteState) (s : SiteKnowledge) (pool : List Frame) (entries : List Entry) (stands : StandsFor old s) (queues : AreQueues old.names)
       (corresponds : Correspond IsFrameOf pool entries) (may : (place : ℕ) (entry : Entry) → slice_get entries place ≡ Some entry → MayBeTaken old entry.carried)
       (may_known : MayBeTaken old s.known) (may_buffer : MayBeTaken old s.buffer) where
@@ -208,7 +208,7 @@ module _ (laws : StandForSteps) where
         (whole_told old new s pool added stands queues o may_known comes)
     at_told (event.Take site place) o added at (comes, none) = nothing_more (taken s (slice_get entries place)) o added none (entry_told place (slice_get pool place) o refl comes)
 
-  -- where memory was wanting for a take there is its entry
+  -- a take that ran out of memory has its entry
   wanting_entry : (pool : List Frame) (old new : SiteState) (e : Event) (o : Outcome) (added : List Frame) → ComesAt pool old e o new added → o ≡ NoMemory → HasEntry pool e
   wanting_entry pool old new (event.Ask site asked) o added comes wanting = tt
   wanting_entry pool old new (event.Cut site) o added comes wanting = tt
@@ -266,7 +266,7 @@ module _ (laws : StandForSteps) where
     stands = subst (λ b. StandsForWorld new (run new.names w (if b then e ∷ done_of es os else done_of es os)).0) (sym done) rest.stands;
   }
 
-  -- and so does one for which memory was wanting
+  -- an event that ran out of memory, followed by events that have happened
   wanting_before : (new : WorldState) (w : World) (e : Event) (o : Outcome) (es : List Event) (os : List Outcome) → is_done o ≡ false → is_there w e ≡ true → HaveHappened new w es os
       → HaveHappened new w (e ∷ es) (o ∷ os)
   wanting_before new w e o es os undone here rest = record {
@@ -306,7 +306,7 @@ module _ (laws : StandForSteps) where
           (others (happens from.names w e).0 next (subst (λ names. StandsForWorld mid (happens names w e).0) kept standing)))
       by others (inr (is, here, standing)) = wanting_before to w e o es os (ap is_done is) here (others w reached standing)
 
-  -- so an event of values within their limits leads on to what stands for a world that events lead to
+  -- an event of values within their limits leads from the states of a reached world to those of a reached world
   pub world_leads : (from to : WorldState) (e : Event) (o : Outcome) → IsWorld from → HasValuesWithinLimits e → EventLeads from e o to → IsWorld to
   world_leads from to e o is values leads =
       let grows = leads_grow from to e o leads in
@@ -316,7 +316,7 @@ module _ (laws : StandForSteps) where
       (world_after_event from.names from.sites to.sites from.pool to.pool e o is (sym grows.sites.lengths) values
       (λ w reached stands. event_happens from there w is.queues reached stands e o (subst (EventLeads from e o) same leads)))
 
-  -- and so do events in turn
+  -- events in turn lead from the states of a reached world to those of a reached world
   worlds_lead_by : (from to : WorldState) (es : List Event) (os : List Outcome) → IsWorld from → AllByRecursion HasValuesWithinLimits es → EventsLead from es os to → IsWorld to
   worlds_lead_by from to [] [] is values all = subst IsWorld (sym all) is
   worlds_lead_by from to [] (o ∷ os) is values all = absurd all

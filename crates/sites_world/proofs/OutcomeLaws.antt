@@ -1,4 +1,4 @@
--- Which outcomes come of which events, and that refused ones change nothing.
+-- Which outcomes each event may have, and that refused ones change nothing.
 use Rattle.replica.specs.Queues.{number_of}
 use Rattle.std.proofs.Common.{◌≡◌, ◌≢◌, ◌↔◌, inl, inr, ℕ, suc, Bool, true, false, ◌||◌, nat_lt, List, [], ◌∷◌, ◌++◌, append-nil, length, slice_get, slice_set, Option, Some, None, Ok, Err, refl, sym, ap, ◌∙◌, true≢false, if◌then◌else◌, is_some}
 use Rattle.std.specs.FinSet as set
@@ -33,7 +33,7 @@ use Rattle.sites_world.proofs.Lists.{none_some, set_again}
 
 -- ---- which outcomes
 
--- a meaning that is refused isn't so for want of memory
+-- a meaning is no refusal as out of memory
 abbrev pub IsTold : Meaning → Type 0
 IsTold (refused_meaning r) = IsToldRefusal r
 IsTold (Makes o) = ⊤
@@ -138,7 +138,7 @@ of_their_events names w e = by (slice_get w.sites (site_of e))
 
 -- ---- no such site, and no such entry
 
--- no event at a site that is there tells that it isn't
+-- no event at a site that is there has the outcome `NoSite`
 there_told : (names : List (List ℕ)) (pool : List Entry) (s : SiteKnowledge) (e : Event) → (happens_at names pool s e).outcome ≡ outcome.NoSite → ⊥
 there_told names pool s (event.Ask site asked) told = (cc)
 there_told names pool s (event.Cut site) told = (cc)
@@ -156,7 +156,7 @@ tell_no_site names w e = by (slice_get w.sites (site_of e))
     by None = ((λ told. refl), (λ is. refl))
     by (Some s) = ((λ told. absurd (there_told names w.pool s e told)), (λ is. absurd (none_some s (sym is))))
 
--- an event at a site that is there tells that there is no such entry exactly where it takes one that isn't there
+-- an event at a site that is there has the outcome `NoEntry` exactly where it takes an entry that isn't there
 entry_told : (names : List (List ℕ)) (w : World) (s : SiteKnowledge) (e : Event) → ((happens_at names w.pool s e).outcome ≡ outcome.NoEntry) ↔ (has_entry w e ≡ false)
 entry_told names w s (event.Ask site asked) = ((λ told. absurd (cc)), (λ is. absurd (true≢false is)))
 entry_told names w s (event.Cut site) = ((λ told. absurd (cc)), (λ is. absurd (true≢false is)))
@@ -176,7 +176,7 @@ tell_no_entry names w e = by (slice_get w.sites (site_of e))
 
 -- ---- what changes nothing
 
--- a happening that leaves the site, and adds nothing, where its outcome tells so
+-- an effect that leaves the site, and adds nothing, where its outcome is one that changes nothing
 record Stays (s : SiteKnowledge) (h : Happening) : Type 0 where
   site : h.site ≡ s
   added : h.added ≡ []
@@ -229,7 +229,7 @@ refusals_change_nothing names w e h = by (slice_get w.sites (site_of e)) refl h
 
 -- ---- outcomes of events in turn
 
--- what may come of an event isn't want of memory
+-- an outcome that an event may have isn't `NoMemory`
 told_done : (e : Event) (o : Outcome) → IsOutcomeOf e o → is_done o ≡ true
 told_done e (outcome.Answered answer) is = refl
 told_done e (outcome.Cut result) is = refl

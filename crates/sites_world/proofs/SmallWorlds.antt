@@ -33,7 +33,7 @@ use Rattle.sites_world.proofs.Lists.{get_replicate, get_set_other, get_set_same,
 
 -- ---- at one site
 
--- what comes of an event at one of so many sites is small: the site, and what the pool gets
+-- the effect of an event at one of `sites` sites is small: the site, and the entries that the pool gets
 record IsSmallHappening (sites : ℕ) (h : Happening) : Type 0 where
   site : IsSmallSite h.site
   added : (entry : Entry) → Contains h.added entry → IsSmallEntry sites entry

@@ -127,7 +127,7 @@ module _ (names_of_queues : List (List ℕ)) (w : World) (h : Knowledge) (site :
   longer : (o : Operation) (k : Knowledge) → IsPartOf k h → IsPartOf k (o ∷ h)
   longer o k part p here = later_in o h p (part p here)
 
-  -- where one is made it is the last of the history
+  -- an operation that a site makes is the last of the history
   pub made_history : (o : Operation) → IsMadeAt site names_of_queues s.known o → IsHistoryOf names_of_queues (record { sites = slice_set w.sites site (after o); pool = w.pool ++ [] }) (o ∷ h)
   made_history o made = record {
     history = subst (λ n. IsHistory names_of_queues n (o ∷ h)) (sym (length-set w.sites site (after o)))
@@ -172,7 +172,7 @@ module _ (names_of_queues : List (List ℕ)) (w : World) (h : Knowledge) (site :
 
 -- ---- steps that make no operation
 
--- and the frame that was made, if one was, carries a part
+-- a step keeps parts of the history: the site knows one, and its frame, if it made one, carries one
 record KeepsParts (h : Knowledge) (site : ℕ) (s : SiteKnowledge) (after : SiteKnowledge × steps.Outcome) : Type 0 where
   keeps : KeepsSite h site s after.0
   carried : (entry : Entry) → Contains (entries_of site after.1) entry → IsPartOf entry.carried h
@@ -260,11 +260,11 @@ module _ (names_of_queues : List (List ℕ)) (w : World) (h : Knowledge) (all : 
       by (Some s) is = at_history e s is
 
 module _ (names_of_queues : List (List ℕ)) where
-  -- so do events in turn
+  -- events in turn lead to a world with a history
   pub run_history : (w : World) (events : List Event) → HasHistory names_of_queues w → HasHistory names_of_queues (run names_of_queues w events).0
   run_history w [] has = has
   run_history w (e ∷ es) has = run_history (happens names_of_queues w e).0 es (happens_history names_of_queues w has.made has.is e)
 
-  -- and a world that events lead to has one
+  -- a reached world has a history
   pub reached_history : (sites : ℕ) (w : World) → IsReached names_of_queues sites w → HasHistory names_of_queues w
   reached_history sites w reached = subst (HasHistory names_of_queues) reached.is (run_history (new_world sites) reached.events (record { made = []; is = new_history names_of_queues sites }))

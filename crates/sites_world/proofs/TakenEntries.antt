@@ -1,4 +1,4 @@
--- A take that is told as taken gives its site every operation of the entry.
+-- A take whose outcome is that the frame was taken gives its site every operation of the entry.
 use Rattle.std.proofs.Common.{◌≡◌, ℕ, Bool, true, false, nat_lt, List, [], ◌++◌, slice_get, Option, Some, None, Ok, refl}
 use Rattle.std.specs.FinSet as set
 use Rattle.std.proofs.lemmas.Option.{slice_get_within}

@@ -1,4 +1,4 @@
--- What comes of asks and frames at one site is told as the world of operations has it, or as want of memory.
+-- Outcomes of asks and takes at one site are those of the world of operations, or `NoMemory`.
 use Rattle.delta.specs.Frames.{IsInRanges}
 use Rattle.std.proofs.Common.{◌≡◌, ◌⊎◌, inl, inr, ℕ, List, [], ◌∷◌, ◌++◌, length, Some, Ok, refl, sym, ap, subst, ◌∙◌}
 use Rattle.delta.specs.DeltaStates.{DeltaState}
@@ -44,7 +44,7 @@ refused_stays site names s (asked_command command) r e = by (meaning site names 
         done_refused e = (cc)
     by (refused_meaning x) e = refl
 
--- an answer is told as it is, or it is that memory is wanting
+-- the outcome of an answer is that answer, or `NoMemory`
 pub told_cases : (answer : Answer) → (answer_told answer ≡ Answered answer) ⊎ ((answer_told answer ≡ NoMemory) × (answer ≡ Refused refusal.Memory))
 told_cases Done = inl refl
 told_cases (Report bytes) = inl refl

@@ -1,4 +1,4 @@
--- What comes of events is told by conditions alone.
+-- Events have their effect by conditions alone.
 use Rattle.std.proofs.Common.{◌≡◌, ◌<◌, ◌≤◌, inl, inr, ℕ, List, [], ◌∷◌, ◌++◌, append-nil, length, slice_get, slice_set, Option, Some, None, Result, Ok, Err, refl, sym, ap, subst, ◌∙◌, arith}
 use Rattle.dots.specs.declared.limits.TheConstants.{MOST_COUNT}
 use Rattle.operations.specs.Knowledge.{Knowledge}
@@ -48,7 +48,7 @@ refused_follows old new (Makes o) r follows = absurd (no_ok follows.0)
     no_ok e = (cc)
 refused_follows old new (refused_meaning x) r follows = follows.1
 
--- one that is refused for want of memory may want some
+-- a command that is refused as out of memory has a meaning that takes memory
 wanting_follows : (old new : SiteState) (m : Meaning) (r : Refusal) → Refused r ≡ Refused refusal.Memory → Follows old m new (Err r) → MayWantMemory m
 wanting_follows old new (Makes o) r is follows = tt
 wanting_follows old new (refused_meaning x) r is follows = subst (λ y. MayWantMemory (refused_meaning y)) same tt
@@ -56,7 +56,7 @@ wanting_follows old new (refused_meaning x) r is follows = subst (λ y. MayWantM
     same : refusal.Memory ≡ x
     same = let told = follows.0 in cc
 
--- an answer is told as what has come of its ask
+-- the outcome of an answer meets the conditions of its ask
 pub asked_comes : (old new : SiteState) (asked : Ask) (answer : Answer) → AnswersCommand old asked new answer → AnswersStatus old asked answer → KeepsAtStatus old asked new
     → ComesOfAsk old asked (answer_told answer) new
 asked_comes old new (Status request) answer command (inl report) kept = subst (λ a. ComesOfAsk old (Status request) (answer_told a) new) (sym report) (refl, kept)
@@ -76,7 +76,7 @@ asked_comes old new (asked_command command) answer (result, is, done) status kep
 
 -- ---- takes
 
--- a fault is told as what has come of the take
+-- the outcome of a fault meets the conditions of the take
 pub fault_comes : (old new : SiteState) (k : Knowledge) (d : DeltaState) (fault : TakeFault) → MayBeTaken old k → IsDeltaOf d k → IsUnchanged old new
     → IsRefusedTake old d (λ f. fault ≡ f) → ComesOfDelta old d (take_fault_told fault) new
 fault_comes old new k d take_fault.NoSuchQueue may is same refused = absurd (may.queues d is (refused.no_such_queue.0 refl))
@@ -92,7 +92,7 @@ fault_comes old new k d take_fault.Memory may is same refused = same
 pub number_left : (s : SiteState) (frame : Frame) → IsNextOf s frame → IsInRanges frame → s.frames < MOST_COUNT
 number_left s frame next ranges = let few = ranges.number.1 in let is = next.number in omega (arith, few, is)
 
--- where one was cut, something was
+-- a cut that made a frame had something to cut
 pub some_cut : (cut : Option Frame) (frame : Frame) → cut ≡ Some frame → ◌≡◌ {A = Result (Option Frame) CutFault} (Ok cut) (Ok None) → ⊥
 some_cut cut frame is none = (cc)
 
@@ -102,7 +102,7 @@ module _ (names : List (List ℕ)) (sites : List SiteState) (pool : List Frame) 
   abbrev from : WorldState
   from = record { names = names; sites = sites; pool = pool }
 
-  -- what has come at a site has come in its world
+  -- the conditions at a site give those in its world
   pub leads_at : (e : Event) (at : ℕ) (old new : SiteState) (grown : List Frame) (o : Outcome) → at ≡ site_of e → slice_get sites at ≡ Some old
       → (((place : ℕ) (entry : Entry) → slice_get is.world.pool place ≡ Some entry → MayBeTaken old entry.carried) → GrowsBy (ComesAt pool old e o new) pool grown)
       → EventLeads from e o (record { names = names; sites = slice_set sites at new; pool = grown })
@@ -117,12 +117,12 @@ module _ (names : List (List ℕ)) (sites : List SiteState) (pool : List Frame) 
 pub leads_nowhere : (from : WorldState) (e : Event) → length from.sites ≤ site_of e → EventLeads from e NoSite from
 leads_nowhere from e past = subst (LeadsWhere from e NoSite from) (sym (slice_get_past from.sites (site_of e) past)) (refl, refl)
 
--- want of memory comes of an ask for a status where nothing is changed
+-- `NoMemory` meets the conditions of a status ask where nothing is changed
 wanting_comes : (old : SiteState) (site : ℕ) (asked : Ask) → ((command : Command) → event.Ask site asked ≡ event.Ask site (asked_command command) → ⊥) → ComesOfAsk old asked NoMemory old
 wanting_comes old site (asked_command command) status = absurd (status command refl)
 wanting_comes old site (Status request) status = itself old
 
--- so it does of one for whose copy memory was wanting, which no command's is
+-- `NoMemory` meets the conditions of an event whose copy ran out of memory, which no command's does
 pub leads_wanting : (from : WorldState) (e : Event) → IsAsk e → ((site : ℕ) (command : Command) → e ≡ event.Ask site (asked_command command) → ⊥) → site_of e < length from.sites
     → EventLeads from e NoMemory from
 leads_wanting from (event.Ask site asked) is status within = by (slice_get from.sites site) refl

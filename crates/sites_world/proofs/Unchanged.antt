@@ -23,7 +23,7 @@ equal_unchanged old new is = subst (IsUnchanged old) (sym is) (itself old)
 done_refused : (r : Refusal) (result : Result (Unit {0}) Refusal) → result ≡ Ok tt → result ≡ Err r → ⊥
 done_refused r result done refused = cc
 
--- an answer that tells that nothing is changed leaves the site as it was
+-- an answer that changes nothing leaves the site as it was
 pub answered_unchanged : (old new : SiteState) (asked : Ask) (answer : Answer) → AnswersCommand old asked new answer → KeepsAtStatus old asked new
     → changes_nothing (answer_told answer) ≡ true → IsUnchanged old new
 answered_unchanged old new (Status request) answer answers kept nothing = equal_unchanged old new kept
@@ -42,7 +42,7 @@ answered_unchanged old new (asked_command command) answer (result, is, done) kep
 pub sites_unchanged : (sites : List SiteState) → Correspond (λ site. IsUnchanged) sites sites
 sites_unchanged sites = record { lengths = refl; each = λ site old new here there. subst (IsUnchanged old) (one_some old new (sym here ∙ there)) (itself old) }
 
--- and so they are with one put in its place that says the same
+-- sites are unchanged where one is replaced by a site that says the same
 pub site_unchanged : (sites : List SiteState) (site : ℕ) (old new : SiteState) → slice_get sites site ≡ Some old → IsUnchanged old new
     → Correspond (λ site. IsUnchanged) sites (slice_set sites site new)
 site_unchanged sites site old new here same =

@@ -53,7 +53,7 @@ module _ {P : Type 0} (at : Dot → P → Bool) where
       by true isnt h = absurd (isnt refl)
       by false isnt h = h
 
-  -- so there are at most as many dots as places
+  -- there are at most as many dots as places
   few_at : (ps : List P) (s : Dots) → AreApart s → AreAt ps s → set.len s ≤ length ps
   few_at [] s apart are = let none = no_dots s (λ dot h. true≢false (sym (are dot h))) in omega (arith, none)
   few_at (p ∷ ps) s apart are = by (list_any (λ dot. at dot p) (set.items s)) refl (λ t. few_at ps t)
@@ -74,7 +74,7 @@ module _ {P : Type 0} (at : Dot → P → Bool) where
 
 -- ---- places: a member and a site
 
--- whether a member that is told, if there is one, is the other
+-- whether `m` is the member that is given, if one is
 abbrev is_member : Option Member → Member → Bool
 is_member None m = false
 is_member (Some n) m = eq_by_cmp member_cmp n m
@@ -83,12 +83,12 @@ is_member (Some n) m = eq_by_cmp member_cmp n m
 abbrev is_at : Knowledge → Dot → Member × ℕ → Bool
 is_at k dot p = is_member (member_of k dot) p.0 && nat_eq dot.site p.1
 
--- a member with each of so many sites
+-- a member paired with each of a number of sites
 abbrev with_sites : Member → ℕ → List (Member × ℕ)
 with_sites m zero = []
 with_sites m (suc n) = (m, n) ∷ with_sites m n
 
--- members, each with each of so many sites
+-- members, each paired with each of a number of sites
 abbrev all_with_sites : List Member → ℕ → List (Member × ℕ)
 all_with_sites [] n = []
 all_with_sites (m ∷ ms) n = with_sites m n ++ all_with_sites ms n
@@ -127,7 +127,7 @@ record HasEachOnce (ms : List Member) : Type 0 where
   many : length list ≡ set.len (set.from_list {R = member_cmp} ms)
   all : (m : Member) → Contains ms m → Contains list m
 
--- so has a list with one member more
+-- a list with one more member has each once
 one_more : (x : Member) (ms : List Member) → HasEachOnce ms → HasEachOnce (x ∷ ms)
 one_more x ms rest = elim (cases_Bool (set.contains (set.from_list {R = member_cmp} ms) x)) [
   | inl there ↦ record {

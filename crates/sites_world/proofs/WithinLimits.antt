@@ -37,7 +37,7 @@ record IsSiteWithin (s : SiteKnowledge) : Type 0 where
   known : AreWithinLimits s.known
   buffer : AreWithinLimits s.buffer
 
--- and so is what comes of an event
+-- the effect of an event is within the limits: what the site knows, and the entries that the pool gets
 record IsHappeningWithin (h : Happening) : Type 0 where
   site : IsSiteWithin h.site
   added : (entry : Entry) → Contains h.added entry → AreWithinLimits entry.carried

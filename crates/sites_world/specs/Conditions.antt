@@ -1,4 +1,4 @@
--- What comes of events, told by conditions alone: by the states of sites and the frames of the pool before them and after them.
+-- The effect of events, by conditions alone: by the states of sites and the frames of the pool before and after them.
 use Rattle.std.specs.Prelude.{ℕ, ◌≡◌, ◌<◌, ◌≤◌, ⊤, List, [], ◌∷◌, ◌++◌, Option, Some, None, Result, Ok, Err, length, slice_get, slice_set}
 use Rattle.dots.specs.declared.limits.TheConstants.{MOST_COUNT, MOST_LIVE, MOST_RUNS}
 use Rattle.member_orset.specs.Members.{cells_joined, runs_joined}
@@ -26,8 +26,8 @@ use Rattle.sites_world.specs.WorldStates.{WorldState}
 
 -- ---- at one site
 
--- an ask leads a site from its state `old` to `new`: a command does what it means, a status gives the report of
--- `old`; or memory is wanting and the site says what it said, of a command only where its meaning may want memory
+-- an ask leads a site from its state `old` to `new`: a command does what it means, and a status gives the report of `old`; or it
+-- runs out of memory and the site says what it said, a command only where its meaning takes memory
 abbrev pub ComesOfAsk : SiteState → Ask → Outcome → SiteState → Type 0
 ComesOfAsk old (asked_command command) (Answered answer) new =
     (result : Result (Unit {0}) Refusal) × (answer ≡ answer_of result) × Follows old (meaning_at old (change_of command)) new result
@@ -36,8 +36,8 @@ ComesOfAsk old (asked_command command) NoMemory new = IsUnchanged old new × May
 ComesOfAsk old (Status request) NoMemory new = IsUnchanged old new
 ComesOfAsk old asked other new = ⊥
 
--- a cut leads a site from its state `old` to `new`, and puts the frames `added` behind the pool's `entries`
--- entries: the buffer's frame, or none where the buffer is empty, no number is left or memory is wanting
+-- a cut leads a site from its state `old` to `new`, and puts the frames `added` after the pool's `entries` entries: the buffer's
+-- frame, or none where the buffer is empty, no number is left or the site is out of memory
 abbrev pub ComesOfCut : ℕ → SiteState → Outcome → SiteState → List Frame → Type 0
 ComesOfCut entries old (Cut (Ok None)) new added = IsEmpty old.pending × (new ≡ old) × (added ≡ [])
 ComesOfCut entries old (Cut (Ok (Some place))) new added = (place ≡ entries) × (frame : Frame) × (added ≡ frame ∷ []) × IsCutDeed old frame new
@@ -45,8 +45,8 @@ ComesOfCut entries old (Cut (Err fault)) new added = (fault ≡ Exhausted) × (I
 ComesOfCut entries old NoMemory new added = (new ≡ old) × (added ≡ [])
 ComesOfCut entries old other new added = ⊥
 
--- a whole leads a site from its state `old` to `new`, and puts the frames `added` behind the pool's `entries`
--- entries: a frame of all that the site knows, or none where no number is left or memory is wanting
+-- a whole leads a site from its state `old` to `new`, and puts the frames `added` after the pool's `entries` entries: a frame of
+-- all that the site knows, or none where no number is left or the site is out of memory
 abbrev pub ComesOfWhole : ℕ → SiteState → Outcome → SiteState → List Frame → Type 0
 ComesOfWhole entries old (Cut (Ok (Some place))) new added = (place ≡ entries) × (frame : Frame) × (added ≡ frame ∷ []) × IsWholeDeed old frame new
 ComesOfWhole entries old (Cut (Err fault)) new added = (fault ≡ Exhausted) × (old.frames ≡ MOST_COUNT) × (new ≡ old) × (added ≡ [])
@@ -64,8 +64,8 @@ HasFrameToMake (event.Cut site) s = HasFrameToCut s
 HasFrameToMake (event.Whole site) s = s.frames < MOST_COUNT
 HasFrameToMake (event.Take site place) s = ⊤
 
--- the take of delta `d` leads a site from its state `old` to `new`: it is taken; or it is too much,
--- in live dots or else in runs, or memory is wanting, and the site says what it said
+-- the take of delta `d` leads a site from its state `old` to `new`: it joins `d`; or it would exceed the limit of live dots or else
+-- of runs, or is out of memory, and the site says what it said
 abbrev pub ComesOfDelta : SiteState → DeltaState → Outcome → SiteState → Type 0
 ComesOfDelta old d (Took (Ok u)) new = IsTakeDeed old d new
 ComesOfDelta old d (Took (Err take_fault.CellsFull)) new = MayJoin old d × (MOST_LIVE < cells_joined old.state.members d.members) × IsUnchanged old new
@@ -80,8 +80,7 @@ abbrev pub ComesOfEntry : Option Frame → SiteState → Outcome → SiteState �
 ComesOfEntry None old o new = (o ≡ NoEntry) × (new ≡ old)
 ComesOfEntry (Some frame) old o new = (copy : DeltaState) × IsSame frame.delta copy × ComesOfDelta old copy o new
 
--- an event with outcome `o` leads its site from state `old` to `new`, and puts the frames `added`
--- behind those of `pool`
+-- an event with outcome `o` leads its site from state `old` to `new`, and puts the frames `added` after those of `pool`
 abbrev pub ComesAt : List Frame → SiteState → Event → Outcome → SiteState → List Frame → Type 0
 ComesAt pool old (event.Ask site asked) o new added = ComesOfAsk old asked o new × (added ≡ [])
 ComesAt pool old (event.Cut site) o new added = ComesOfCut (length pool) old o new added
@@ -110,12 +109,12 @@ abbrev pub LeadsWhere : WorldState → Event → Outcome → WorldState → Opti
 LeadsWhere from e o to None = (o ≡ NoSite) × (to ≡ from)
 LeadsWhere from e o to (Some old) = LeadsAt from e o to old
 
--- event `e` with outcome `o` leads from world `from` to world `to`, by what comes of it at its
--- site, if there is that site
+-- event `e` with outcome `o` leads from world `from` to world `to`, by its conditions at its site, or by `NoSite` where there is no
+-- such site
 abbrev pub EventLeads : WorldState → Event → Outcome → WorldState → Type 0
 EventLeads from e o to = LeadsWhere from e o to (slice_get from.sites (site_of e))
 
--- events, one after the other, with one outcome each, lead from world `from` to world `to`
+-- events, in order, with one outcome each, lead from world `from` to world `to`
 abbrev pub EventsLead : WorldState → List Event → List Outcome → WorldState → Type 0
 EventsLead from [] [] to = to ≡ from
 EventsLead from (e ∷ es) (o ∷ os) to = (mid : WorldState) × EventLeads from e o mid × EventsLead mid es os to

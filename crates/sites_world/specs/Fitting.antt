@@ -45,7 +45,7 @@ EntriesFit = (names : List (List ℕ)) (sites : ℕ) (w : World) (entry : Entry)
 abbrev pub EntriesHaveFrames : Type 0
 EntriesHaveFrames = (place : ℕ) (entry : Entry) → IsEntryThatFits entry → (frame : Frame) × IsFrameOf place frame entry
 
--- each delta that is held in a world stands for a knowledge that fits in a frame
+-- each delta that a world holds stands for a knowledge that fits in a frame
 abbrev pub HoldWhatFits : Type 0
 HoldWhatFits = (state : WorldState) (d : DeltaState) → IsWorld state → IsHeldIn state d → (k : Knowledge) × IsDeltaOf d k × FitsInFrame k
 

@@ -20,8 +20,7 @@ stamp_of (Write dots setting stamp older) = Some stamp
 stamp_of (Remove dots) = None
 stamp_of (Count site queue calls total) = None
 
--- an operation tells that `site` made it: by its stamp, or by the site whose calls it counts; a
--- remove doesn't tell its site
+-- an operation shows that `site` made it: by its stamp, or by the site whose calls it counts; a remove shows no site
 abbrev pub IsOf : ℕ → Operation → Type 0
 IsOf site (Add dot member stamp penalty pause label older) = stamp.site ≡ site
 IsOf site (Write dots setting stamp older) = stamp.site ≡ site

@@ -47,8 +47,7 @@ HasOneASite dots = (dot other : Dot) → Contains dots dot → Contains dots oth
 abbrev pub HoldOneDotASite : Type 0
 HoldOneDotASite = (state : WorldState) (d : DeltaState) (m : Member) → IsWorld state → IsHeldIn state d → HasOneASite (dots_of (dot_view_of d.members) m)
 
--- a delta that is held in a world has at most as many live dots as the world has sites, times the
--- members that have one
+-- a delta that a world holds has at most as many live dots as the world has sites, times the members with a live dot
 abbrev pub HoldFewCells : Type 0
 HoldFewCells = (state : WorldState) (d : DeltaState) → IsWorld state → IsHeldIn state d
     → map.len d.members.live ≤ set.len (members_seen (dot_view_of d.members)) * length state.sites
@@ -69,8 +68,7 @@ KnowNonePast = (names : List (List ℕ)) (sites : ℕ) (w : World) (site : ℕ) 
 
 -- ---- takes
 
--- each site of a world that events lead to may join each entry of the pool; of the limits of a join
--- nothing is said
+-- each site of a world that events lead to may join each entry of the pool, limits of the join aside
 abbrev pub MayTakeEntries : Type 0
 MayTakeEntries = (names : List (List ℕ)) (sites : ℕ) (w : World) (site place : ℕ) (state : SiteState) (s : SiteKnowledge) (entry : Entry) → IsReached names sites w
     → slice_get w.sites site ≡ Some s → IsSiteOf names site state s → slice_get w.pool place ≡ Some entry → MayBeTaken state entry.carried
@@ -91,23 +89,21 @@ pub record HasGrown (w after : World) : Type 0 where
   pub added : List Entry
   pub pool : after.pool ≡ w.pool ++ added
 
--- an event leads from each world to one that has grown: what sites knew they know, and what the
--- pool had it has
+-- an event leads from each world to one that has grown: each site still knows what it knew, and the pool keeps its entries
 abbrev pub EventsGrow : Type 0
 EventsGrow = (names : List (List ℕ)) (w : World) (e : Event) → HasGrown w (happens names w e).0
 
--- events in turn lead from each world to one that has grown: what sites knew they know, and what
--- the pool had it has
+-- events in turn lead from each world to one that has grown: each site still knows what it knew, and the pool keeps its entries
 abbrev pub RunsGrow : Type 0
 RunsGrow = (names : List (List ℕ)) (w : World) (events : List Event) → HasGrown w (run names w events).0
 
--- a site that has taken an entry knows each operation of it, whatever events come then
+-- a site that has taken an entry knows each operation of it, whatever events follow
 abbrev pub TakenStaysKnown : Type 0
 TakenStaysKnown = (names : List (List ℕ)) (w : World) (site place : ℕ) (entry : Entry) (later : List Event) (t : SiteKnowledge)
     → (happens names w (event.Take site place)).1 ≡ Took (Ok tt) → slice_get w.pool place ≡ Some entry
     → slice_get (run names w (event.Take site place ∷ later)).0.sites site ≡ Some t → IsPartOf entry.carried t.known
 
--- ---- growth, told of states alone
+-- ---- growth, of states alone
 
 -- delta `e` says all that `d` says: it knows each dot of it, has each dot's condition or one above,
 -- so that a dead dot is dead there, and no total is less
@@ -144,7 +140,7 @@ LeadsGrow = (from to : WorldState) (e : Event) (o : Outcome) → EventLeads from
 abbrev pub LeadAllGrows : Type 0
 LeadAllGrows = (from to : WorldState) (events : List Event) (outcomes : List Outcome) → EventsLead from events outcomes to → StatesGrow from to
 
--- a site that has taken a frame says all that the frame does, whatever events come then
+-- a site that has taken a frame says all that the frame says, whatever events follow
 abbrev pub TakenStaysSaid : Type 0
 TakenStaysSaid = (from to : WorldState) (site place : ℕ) (frame : Frame) (new : SiteState) (later : List Event) (outcomes : List Outcome)
     → slice_get from.pool place ≡ Some frame → EventsLead from (event.Take site place ∷ later) (Took (Ok tt) ∷ outcomes) to → slice_get to.sites site ≡ Some new

@@ -1,4 +1,4 @@
--- Which outcomes may come of which events, and which of them change nothing.
+-- Which outcomes each event may have, and which outcomes change nothing.
 use Rattle.std.specs.Prelude.{⊤, ◌≡◌, ◌⊎◌, Bool, true, false, Some, Ok, Err}
 use Rattle.replica.specs.declared.cut_fault.CutFault.TheVariants.{Exhausted}
 use Rattle.replica.specs.declared.refusal.Refusal.{Refusal}
@@ -13,13 +13,12 @@ use Rattle.sites_world.specs.declared.event.Event.TheVariants as event
 use Rattle.sites_world.specs.declared.outcome.Outcome.{Outcome}
 use Rattle.sites_world.specs.declared.outcome.Outcome.TheVariants as outcome
 
--- a refusal is one that the meaning of a command tells: any but want of memory
+-- a refusal is one that the meaning of a command may have: any but out of memory
 abbrev pub IsToldRefusal : Refusal → Type 0
 IsToldRefusal refusal.Memory = ⊥
 IsToldRefusal other = ⊤
 
--- what may be answered to an ask: to a command that it is done, or a refusal other than want of
--- memory; to a status a report
+-- an answer is one that an ask may have: for a command, done or a refusal other than out of memory; for a status, a report
 abbrev pub MayAnswer : Ask → Answer → Type 0
 MayAnswer (asked_command command) Done = ⊤
 MayAnswer (asked_command command) (Refused r) = IsToldRefusal r
@@ -28,8 +27,8 @@ MayAnswer (Status request) (Report bytes) = ⊤
 MayAnswer (Status request) Done = ⊥
 MayAnswer (Status request) (Refused r) = ⊥
 
--- an outcome may come of event `e` where memory isn't wanting: `NoSite`; an answer to an ask; a frame or
--- `Exhausted` of a cut or a whole, or no frame of a cut; `NoEntry`, taken or too much of a take
+-- event `e` may have an outcome where memory is ample: `NoSite`; for an ask, an answer; for a cut or a whole, a frame or
+-- `Exhausted`, or no frame of a cut; for a take, `NoEntry`, joined or too large
 abbrev pub IsOutcomeOf : Event → Outcome → Type 0
 IsOutcomeOf e outcome.NoSite = ⊤
 IsOutcomeOf (event.Ask site asked) (outcome.Answered answer) = MayAnswer asked answer
@@ -42,8 +41,8 @@ IsOutcomeOf (event.Take site entry) (outcome.Took (Ok done)) = ⊤
 IsOutcomeOf (event.Take site entry) (outcome.Took (Err fault)) = (fault ≡ take_fault.CellsFull) ⊎ (fault ≡ take_fault.RunsFull)
 IsOutcomeOf e o = ⊥
 
--- whether an outcome tells that nothing is changed: all do but the answer that a command is done, a
--- frame that was made, and one that was taken
+-- whether an outcome means that nothing changed: all do but a command that is done, a frame that was made, and a frame that
+-- was taken
 abbrev pub changes_nothing : Outcome → Bool
 changes_nothing (outcome.Answered Done) = false
 changes_nothing (outcome.Cut (Ok (Some entry))) = false

@@ -1,4 +1,4 @@
--- What the definition of the world promises.
+-- Promises of the definition of the world, as statements that the laws prove.
 use Rattle.sites_world.specs.Outcomes.{IsOutcomeOf, changes_nothing}
 use Rattle.sites_world.specs.declared.outcome.Outcome.TheVariants.{Answered, NoEntry, NoSite, Took}
 use Rattle.status_report.specs.declared.asks.Answer.TheVariants.{Report}
@@ -72,8 +72,7 @@ abbrev pub ReportsAreReadings : Type 0
 ReportsAreReadings = (names : List (List ℕ)) (w : World) (site : ℕ) (s : SiteKnowledge) (request : StatusRequest) → slice_get w.sites site ≡ Some s
     → (happens names w (event.Ask site (Status request))).1 ≡ Answered (Report (status_in s.known names request))
 
--- a world that events lead to from sites that know nothing leads, by further events, to worlds of
--- the same kind
+-- a world that events lead to from new sites leads, by further events, to worlds of the same kind
 abbrev pub LeadsOn : Type 0
 LeadsOn = (names : List (List ℕ)) (sites : ℕ) (w : World) (events : List Event) → IsReached names sites w → IsReached names sites (run names w events).0
 
@@ -120,7 +119,7 @@ pub record HasTakenEntry (w after : World) (site place : ℕ) : Type 0 where
   pub kept : IsPartOf before.known now.known
   pub no_more : IsPartOf now.known (entry.carried ++ before.known)
 
--- a take that is told as taken has given its site every operation of the entry, and nothing else
+-- a take whose outcome is that the frame was taken has given its site every operation of the entry, and nothing else
 abbrev pub TakesGive : Type 0
 TakesGive = (names : List (List ℕ)) (w : World) (site place : ℕ) → (happens names w (event.Take site place)).1 ≡ Took (Ok tt)
     → HasTakenEntry w (happens names w (event.Take site place)).0 site place
@@ -130,8 +129,7 @@ pub record RunsInParts (names : List (List ℕ)) (w : World) (first rest : List 
   pub world : (run names w (first ++ rest)).0 ≡ (run names (run names w first).0 rest).0
   pub outcomes : (run names w (first ++ rest)).1 ≡ (run names w first).1 ++ (run names (run names w first).0 rest).1
 
--- the outcome of each event is one that may come of it, so it is never want of memory, and no frame
--- is refused but as too much
+-- the outcome of each event is one that it may have, so it is never `NoMemory`, and a take fails only as too large
 abbrev pub AreOfTheirEvents : Type 0
 AreOfTheirEvents = (names : List (List ℕ)) (w : World) (e : Event) → IsOutcomeOf e (happens names w e).1
 
@@ -139,15 +137,15 @@ AreOfTheirEvents = (names : List (List ℕ)) (w : World) (e : Event) → IsOutco
 abbrev pub TellNoSite : Type 0
 TellNoSite = (names : List (List ℕ)) (w : World) (e : Event) → ((happens names w e).1 ≡ NoSite) ↔ (slice_get w.sites (site_of e) ≡ None)
 
--- the outcome of an event is `NoEntry` exactly where there is its site, and no such entry as it takes
+-- the outcome of an event is `NoEntry` exactly where there is its site, and not the entry that it takes
 abbrev pub TellNoEntry : Type 0
 TellNoEntry = (names : List (List ℕ)) (w : World) (e : Event) → ((happens names w e).1 ≡ NoEntry) ↔ ((slice_get w.sites (site_of e) ≢ None) × (has_entry w e ≡ false))
 
--- an event whose outcome tells that nothing is changed leaves the world as it was
+-- an event whose outcome is one that changes nothing leaves the world as it was
 abbrev pub RefusalsChangeNothing : Type 0
 RefusalsChangeNothing = (names : List (List ℕ)) (w : World) (e : Event) → changes_nothing (happens names w e).1 ≡ true → (happens names w e).0 ≡ w
 
--- events that are run have one outcome each, and none of these is want of memory
+-- events that are run have one outcome each, and none of these is `NoMemory`
 pub record HaveOutcomes (names : List (List ℕ)) (w : World) (events : List Event) : Type 0 where
   pub one_each : length (run names w events).1 ≡ length events
   pub done : All (λ o. is_done o ≡ true) (run names w events).1
@@ -160,8 +158,7 @@ abbrev pub EventsKeepLimits : Type 0
 EventsKeepLimits = (names : List (List ℕ)) (w : World) (e : Event) → AreQueues names → length w.sites ≤ SITES → HasValuesWithinLimits e → KnowsWithinLimits w
     → KnowsWithinLimits (happens names w e).0
 
--- in each world that events of values within their limits lead to, from at most 64 sites that know
--- nothing, what is known is within limits
+-- in each world that events of values within their limits lead to, from at most 64 new sites, what is known is within limits
 abbrev pub WorldsAreWithinLimits : Type 0
 WorldsAreWithinLimits = (names : List (List ℕ)) (sites : ℕ) (events : List Event) → AreQueues names → sites ≤ SITES → All HasValuesWithinLimits events
     → KnowsWithinLimits (run names (new_world sites) events).0

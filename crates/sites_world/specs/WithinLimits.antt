@@ -10,8 +10,8 @@ use Rattle.sites_world.specs.declared.event.Event.TheVariants as event
 use Rattle.sites_world.specs.Histories.{IsIn}
 use Rattle.sites_world.specs.Worlds.{World}
 
--- the values of the command that an event asks for, if it does, are within their limits; those of a
--- program are by their types
+-- the values of the command of an event, if it has one, are within their limits; the types ensure
+-- this of a program's events
 abbrev pub HasValuesWithinLimits : Event → Type 0
 HasValuesWithinLimits (event.Ask site (asked_command command)) = IsChange (change_of command)
 HasValuesWithinLimits other = ⊤

@@ -81,19 +81,19 @@ pub record IsWorld (state : WorldState) : Type 0 where
   pub within : KnowsWithinLimits world
   pub stands : StandsForWorld state world
 
--- event `e` has happened in world `w`: `o` is its outcome in the world of operations, and `new` stands for the world
--- after it; or memory was wanting at a site that is there, for an entry that is, and `new` stands for `w` still
+-- event `e` has happened in world `w`: `o` is its outcome in the world of operations, and `new` stands for the world after it; or
+-- it ran out of memory at a site that is there, for an entry that is, and `new` still stands for `w`
 abbrev pub HasHappened : WorldState → World → Event → Outcome → Type 0
 HasHappened new w e o = ((is_done o ≡ true) × ((happens new.names w e).1 ≡ o) × StandsForWorld new (happens new.names w e).0) ⊎ ((o ≡ NoMemory) × (is_there w e ≡ true) × StandsForWorld new w)
 
--- whether each event that wanted memory is at a site that is there, and takes no entry that isn't,
--- in the world that the events done before it lead to
+-- whether each event that ran out of memory has its site, and its entry if it takes one, in the world that the events done before
+-- it lead to
 abbrev pub are_there : List (List ℕ) → World → List Event → List Outcome → Bool
 are_there names w (e ∷ es) (o ∷ os) = if is_done o then are_there names (happens names w e).0 es os else is_there w e && are_there names w es os
 are_there names w es os = true
 
--- events have happened in world `w`, with one outcome each: those that didn't want memory have the outcomes of the world of
--- operations, and `new` stands for the world after these; memory was wanting only where site and entry are there
+-- events have happened in world `w`, with one outcome each: those that didn't run out of memory have the outcomes of the world of
+-- operations, and `new` stands for the world after these; the others have their site and entry
 pub record HaveHappened (new : WorldState) (w : World) (events : List Event) (outcomes : List Outcome) : Type 0 where
   pub one_each : length outcomes ≡ length events
   pub there : are_there new.names w events outcomes ≡ true

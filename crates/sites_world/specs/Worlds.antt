@@ -1,5 +1,5 @@
--- The world of operations: what each site knows, and the frames that were made. A frame that is lost is one that is never taken, and each may be
--- taken again and in any order (RR-7506: a replica is changed at its source, and merges what it is sent, whenever that comes).
+-- The world of operations: what each site knows, and the frames that were made. A lost frame is one that is never taken; each frame
+-- may be taken again and in any order (RR-7506: a replica is changed at its source, and merges what it is sent at any time).
 use Rattle.std.specs.Prelude.{ℕ, ◌≡◌, Bool, true, false, List, [], ◌∷◌, ◌++◌, length, replicate, slice_get, slice_set, Option, Some, None, Result, Ok, Err, if◌then◌else◌, ◌&&◌, is_some}
 use Rattle.operations.specs.Knowledge.{Knowledge}
 use Rattle.replica.specs.declared.cut_fault.CutFault.{CutFault}
@@ -22,17 +22,16 @@ pub record Entry : Type 0 where
   pub number : ℕ
   pub carried : Knowledge
 
--- a world of operations: what each site knows, by the sites' numbers, and the pool, all frames that
--- were made, in their order
+-- a world of operations: what each site knows, by the sites' numbers, and the pool, all frames that were made, in order
 pub record World : Type 0 where
   pub sites : List SiteKnowledge
   pub pool : List Entry
 
--- a world of `sites` sites that know nothing yet, with no frame
+-- a world of `sites` new sites, with no frame
 abbrev pub new_world : ℕ → World
 new_world sites = record { sites = replicate sites new_site; pool = [] }
 
--- what an event does at its site: what the site knows then, the entries that the pool gets, and what comes of it
+-- the effect of an event at its site: what the site knows then, the entries that the pool gets, and the outcome
 pub record Happening : Type 0 where
   pub site : SiteKnowledge
   pub added : List Entry
@@ -42,38 +41,35 @@ pub record Happening : Type 0 where
 abbrev pub answered : SiteKnowledge × Answer → Happening
 answered after = record { site = after.0; added = []; outcome = outcome.Answered after.1 }
 
--- the entry that comes of a step of site `maker`: the frame that the step made; none where it made none
+-- the entries of a step of site `maker`: the frame that the step made; none where it made none
 abbrev pub entries_of : ℕ → steps.Outcome → List Entry
 entries_of maker (Framed number carried) = record { maker = maker; number = number; carried = carried } ∷ []
 entries_of maker other = []
 
--- how it is told what came of a cut or a whole: by the place of the frame, behind `entries`
--- entries; by `Exhausted`, where no number was left; or that there was nothing to cut
+-- the outcome of a cut or a whole: the place of the frame, after `entries` entries; `Exhausted`, where no number was left; or that
+-- there was nothing to cut
 abbrev pub frame_told : ℕ → steps.Outcome → Result (Option ℕ) CutFault
 frame_told entries (Framed number carried) = Ok (Some entries)
 frame_told entries NoNumber = Err Exhausted
 frame_told entries other = Ok None
 
--- what happens at site `maker` where a frame is asked for and the pool has `entries` entries:
--- `after` is what the site knows then, and what came of its step
+-- the effect of a cut or a whole at site `maker` where the pool has `entries` entries: `after` is what the site knows then, and the
+-- outcome of its step
 abbrev pub framed : ℕ → ℕ → SiteKnowledge × steps.Outcome → Happening
 framed maker entries after = record { site = after.0; added = entries_of maker after.1; outcome = outcome.Cut (frame_told entries after.1) }
 
--- how it is told what came of a take: that the frame was taken, or that too many dots or runs would
--- stand in the join
+-- the outcome of a take: the frame was taken, or the join would have too many dots or runs
 abbrev pub take_told : steps.Outcome → Result (Unit {0}) TakeFault
 take_told steps.CellsFull = Err take_fault.CellsFull
 take_told steps.RunsFull = Err take_fault.RunsFull
 take_told other = Ok tt
 
--- what happens at a site that knows `s` where it takes the frame of an entry; where there is no
--- such entry, it is told so
+-- the effect of a take at a site that knows `s`, of the frame of an entry; `NoEntry` where there is no such entry
 abbrev pub taken : SiteKnowledge → Option Entry → Happening
 taken s None = record { site = s; added = []; outcome = outcome.NoEntry }
 taken s (Some entry) = let after = take s entry.carried in record { site = after.0; added = []; outcome = outcome.Took (take_told after.1) }
 
--- what an event does at a site that knows `s`, with the entries `pool` in the pool; each site has
--- the queues of these names
+-- the effect of an event at a site that knows `s`, with the entries `pool` in the pool; each site has the queues of these names
 abbrev pub happens_at : List (List ℕ) → List Entry → SiteKnowledge → Event → Happening
 happens_at names pool s (event.Ask site asked) = answered (answer_in site names s asked)
 happens_at names pool s (event.Cut site) = framed site (length pool) (step site names s Cut)
@@ -97,7 +93,7 @@ abbrev pub happens_where : List (List ℕ) → World → ℕ → Option SiteKnow
 happens_where names w site None e = (w, outcome.NoSite)
 happens_where names w site (Some s) e = let h = happens_at names w.pool s e in (after_happening w site h, h.outcome)
 
--- event `e` in world `w`: the world after it, and what comes of it
+-- event `e` in world `w`: the world after it, and its outcome
 abbrev pub happens : List (List ℕ) → World → Event → World × Outcome
 happens names w e = happens_where names w (site_of e) (slice_get w.sites (site_of e)) e
 
@@ -115,25 +111,24 @@ abbrev pub run : List (List ℕ) → World → List Event → World × List Outc
 run names w [] = (w, [])
 run names w (e ∷ es) = let one = happens names w e in let rest = run names one.0 es in (rest.0, one.1 ∷ rest.1)
 
--- events lead from `sites` sites that know nothing to world `w`; values past their limits may stand
--- in them, which no program has
+-- events lead from `sites` new sites to world `w`; values past their limits may stand in them, which no program has
 pub record IsReached (names : List (List ℕ)) (sites : ℕ) (w : World) : Type 0 where
   pub events : List Event
   pub is : (run names (new_world sites) events).0 ≡ w
 
 -- ---- events that were done
 
--- whether an outcome is that of an event that was done: it isn't want of memory
+-- whether an outcome is that of an event that was done: all but `NoMemory`
 abbrev pub is_done : Outcome → Bool
 is_done outcome.NoMemory = false
 is_done other = true
 
--- of events with their outcomes, the events that were done: those whose outcome isn't want of memory
+-- of events with their outcomes, the events that were done: those whose outcome isn't `NoMemory`
 abbrev pub done_of : List Event → List Outcome → List Event
 done_of (e ∷ es) (o ∷ os) = if is_done o then e ∷ done_of es os else done_of es os
 done_of es os = []
 
--- of outcomes, those of events that were done: all but want of memory
+-- of outcomes, those of events that were done: all but `NoMemory`
 abbrev pub outcomes_of : List Outcome → List Outcome
 outcomes_of [] = []
 outcomes_of (o ∷ os) = if is_done o then o ∷ outcomes_of os else outcomes_of os

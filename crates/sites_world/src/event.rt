@@ -7,21 +7,21 @@ ghost use Rattle.sites_world.specs.WithinLimits.{HasValuesWithinLimits};
 use dots::{Memory, SiteId};
 use status_report::Ask;
 
-/// What may happen at a site. A frame that is lost is one that no event takes (this project's own).
+/// An event at one site of a world (this project's own). A lost frame is a frame that no event takes.
 #[derive(Drop)]
 pub enum Event {
-    /// Something is asked of a site.
+    /// The site runs a command or reports its status.
     Ask(SiteId, Ask),
-    /// A site puts its buffer into a frame, and that at the end of the pool; an empty buffer gives none.
+    /// The site puts its buffer into a frame at the end of the pool. An empty buffer gives no frame.
     Cut(SiteId),
-    /// A site puts all that it knows into a frame, and that at the end of the pool.
+    /// The site puts everything that it knows into a frame at the end of the pool.
     Whole(SiteId),
-    /// A site takes the frame of an entry of the pool, whoever made it.
+    /// The site takes the frame of an entry of the pool, of any maker.
     Take(SiteId, usize),
 }
 
 impl Event {
-    // Makes known that the values of what it asks are within their limits, as their types have it.
+    // Exposes to the proof that the values of the event's command are within their limits.
     pub(crate) fn see_limits(&self)
         ensures { HasValuesWithinLimits self.now }
     {
@@ -30,7 +30,8 @@ impl Event {
         }
     }
 
-    /// The same event once more. The one fault is want of memory, and an ask for a status alone takes some.
+    /// Returns a copy. Fails only when out of memory. To copy a status ask takes memory; no other event
+    /// does.
     pub fn copy(&self) -> Result<Event, Memory>
         ensures ok { IfOk result (λ copy. copy ≡ self.now) }
         ensures asks { OnErr result (IsAsk self.now) }

@@ -1,4 +1,5 @@
-//! What the definition of the world of operations promises, and of what is held in a world. The functions have no body but other laws: their contracts are the laws.
+//! Laws of the world of operations, and of the deltas that a world holds. The functions have no body but other laws: their
+//! contracts are the laws.
 ghost use Rattle.std.specs.Prelude.{◌≡◌, ℕ, List, length, true};
 ghost use Rattle.std.specs.List.{All};
 ghost use Rattle.replica.specs.Queues.{AreQueues};
@@ -57,9 +58,8 @@ pub fn knowledges_of_a_world_are_consistent_together()
     ensures { AreConsistentTogether }
 {}
 
-/// The deltas of any two knowledges of one world agree, so no join of them is in conflict, and it is all the same which of both is
-/// joined into the other (RR-7506: states form a join semilattice). That it makes no difference how any deltas are grouped and how
-/// often one is joined are laws of `delta`.
+/// The deltas of any two knowledges of one world agree, so each join of them is without conflict, and is commutative (RR-7506:
+/// states form a join semilattice). That join is associative and idempotent are laws of `delta`.
 pub fn deltas_of_a_world_agree()
     ensures agree { WorldDeltasAgree }
     ensures commute { DeltasCommute }
@@ -72,29 +72,31 @@ pub fn sites_that_know_the_same_have_the_same_status()
     ensures answers { GiveSameAnswer }
 {}
 
-/// What comes of an event is of its kind: an ask is answered, and a command never refused for want of memory; a frame that is asked for
-/// is made, or no number is left, or a buffer has nothing to send; a frame is taken, or is too much, and is never refused as
-/// `NoSuchQueue`, `NotMine` or `Conflict`. Else it is that there is no such site, exactly where there is none, or that there is no such
-/// entry, exactly where there is the site and no entry to take (this project's own).
+/// Every event has an outcome of its kind. `NoSite` stands exactly where there is no such site, and `NoEntry` exactly where there
+/// is the site but no entry to take. Otherwise: an ask has an answer, and no command is refused as out of memory; a cut or a whole
+/// makes a frame, is `Exhausted`, or (a cut) had an empty buffer; a take joins the frame or would exceed a limit, and never fails
+/// with `NoSuchQueue`, `NotMine` or `Conflict`.
 pub fn an_outcome_is_of_its_event()
     ensures kind { AreOfTheirEvents }
     ensures no_site { TellNoSite }
     ensures no_entry { TellNoEntry }
 {}
 
-/// In the world of operations each list of events has one list of outcomes, one for each event, and none of these is `NoMemory` (this project's own).
+/// In the world of operations each list of events has exactly one list of outcomes, one for each event, and none of them is
+/// `NoMemory`.
 pub fn each_event_has_one_outcome()
     ensures { (names : List (List ℕ)) (w : World) (events : List Event)
         → HaveOutcomes names w events }
 {}
 
-/// What is refused changes nothing, and nor does a status, a cut of an empty buffer, or an event where there is no such site or
-/// entry (this project's own).
+/// These change nothing: a refused command, a take that fails, a status, a cut of an empty buffer, and an event for which there is
+/// no site or no entry.
 pub fn what_is_refused_changes_nothing()
     ensures { RefusalsChangeNothing }
 {}
 
-/// Where the outcome of each event tells that nothing is changed, each site says after all of them what it said, and the pool is as it was (this project's own).
+/// If each outcome of a list of events is one that changes nothing, each site says after them what it said before, and the pool is
+/// the same.
 pub fn outcomes_that_change_nothing_leave_what_is_said()
     ensures { (from to : WorldState) (events : List Event) (outcomes : List Outcome)
         → EventsLead from events outcomes to → All (λ o. changes_nothing o ≡ true) outcomes
@@ -106,60 +108,61 @@ pub fn a_report_is_the_reading_of_what_its_site_knows()
     ensures { ReportsAreReadings }
 {}
 
-/// In each knowledge of a world a member has at most one visible dot of each site: an add replaces the site's older ones (this
-/// project's own).
+/// In each knowledge of a world a member has at most one visible dot of each site: an add replaces the site's older ones.
 pub fn a_member_has_one_visible_dot_of_a_site()
     ensures { HaveOneDotASite }
 {}
 
-/// Each knowledge of a world has at most as many visible dots as members that have one times sites, since a member has one of each
-/// site; and what stands for it has at most as many live dots (this project's own).
+/// Each knowledge of a world has at most as many visible dots as there are members with a visible dot, times the number of sites: a
+/// member has at most one of each site. A delta that stands for the knowledge has at most as many live dots.
 pub fn visible_dots_are_at_most_members_times_sites()
     ensures visible { HaveFewVisibleDots }
     ensures live { HaveFewLiveDots }
 {}
 
-/// Whatever is held in a world, be it the state or the buffer of a site or a frame of the pool, has at most one live dot of a member and a site. So it has at most
-/// as many live dots as members that have one times sites (this project's own).
+/// Every delta that a world holds (the state or the buffer of a site, or a frame of the pool) has at most one live dot for each
+/// member and site. So it has at most as many live dots as members with a live dot, times the number of sites.
 pub fn what_is_held_has_one_dot_of_a_member_and_a_site()
     ensures dots { HoldOneDotASite }
     ensures cells { HoldFewCells }
 {}
 
-/// Any two deltas that are held in a world agree, so no join of them is in conflict (RR-7506: states form a join semilattice).
+/// Any two deltas that a world holds agree, so no join of them is in conflict (RR-7506: states form a join semilattice).
 pub fn what_is_held_agrees()
     ensures { HeldAgree }
 {}
 
-/// A site of a world that events lead to may join each of its entries: what stands for the entry is of the site's queues, says of the site nothing that it hasn't
-/// made, and agrees with what the site knows. So each site may join each frame of the pool. Nothing is told of limits: a take is still refused where too many dots
-/// would be live, or the known ones would have too many runs (this project's own).
+/// A site of a reached world may join each entry: the delta of the entry has only the site's queues, has no dot or count of the
+/// site that the site hasn't made, and agrees with what the site knows. So each site may join each frame of the pool. This law
+/// doesn't cover limits: a take still fails if the join would have too many live dots or too many runs.
 pub fn a_site_may_take_every_entry()
     ensures entries { MayTakeEntries }
     ensures frames { MayJoinFrames }
 {}
 
-/// A world only grows, event by event: it has as many sites, each knows what it knew and has made no fewer frames, and its pool keeps its entries. So a site that has
-/// taken an entry knows each operation of it from then on (RR-7506: states only grow).
+/// A world grows with each event: the sites stay, each knows what it knew and has made no fewer frames, and the pool keeps its
+/// entries. So a site that has taken an entry knows each of its operations from then on (RR-7506: states only grow).
 pub fn a_world_only_grows()
     ensures event { EventsGrow }
     ensures events { RunsGrow }
     ensures taken { TakenStaysKnown }
 {}
 
-/// States grow, whatever comes of events: there are as many sites, with the same queues; each knows each dot that it knew, with its condition or one above, has no
-/// total that is less, and has used no fewer numbers; and the pool keeps its frames. So a site that has taken a frame says all that the frame does from then on, and
-/// what is dead there is dead. It follows from the conditions of events alone, whatever states they are of (RR-7506: states only grow).
+/// States grow with each event, whatever its outcome: there are as many sites, with the same queues; each knows each dot that it
+/// knew, with its condition or a greater one, has no smaller total, and has used no fewer numbers; and the pool keeps its frames.
+/// So a site that has taken a frame says all that the frame says from then on, and a dot that is dead in the frame is dead there.
+/// This follows from the conditions of events alone, for any states (RR-7506: states only grow).
 pub fn states_only_grow()
     ensures event { LeadsGrow }
     ensures events { LeadAllGrows }
     ensures taken { TakenStaysSaid }
 {}
 
-/// What comes of events by conditions is what comes of them in the world of operations. Where states stand for a world that events lead to, and an event leads from them to
-/// others by conditions, it has happened in that world with the same outcome, and the others stand for the world after it; or memory was wanting, and they stand for
-/// that world still. So it is with events in turn, and so what holds of the sites of every world is kept by each event of values within their limits (RR-7506: a
-/// replica's state stands for the updates that it has made or merged).
+/// The conditions of an event imply its meaning in the world of operations. If states stand for a reached world, and an event leads
+/// from them to new states by conditions, then either the event has the same outcome in that world and the new states stand for the
+/// world after it, or it ran out of memory and the new states stand for the same world. The same holds of lists of events. So each
+/// event with values within their limits keeps what holds of the sites of every world (RR-7506: a replica's state stands for the
+/// updates that it has made or merged).
 pub fn what_comes_by_conditions_comes_of_operations()
     ensures event { (from to : WorldState) (w : World) (e : Event) (o : Outcome)
         → AreQueues from.names → IsReached from.names (length from.sites) w
@@ -179,32 +182,34 @@ pub fn what_comes_by_conditions_comes_of_operations()
     a_report_is_the_status_text_of_what_its_site_stands_for();
 }
 
-/// Each operation that a site knows or has in its buffer, and that an entry carries, is within the limits of operations, where the queues are, there are at most 64
-/// sites, and the values of each command were within theirs. A `QueueList` and the values of an `Event` are, and a world is made of no more sites: so whatever is
-/// held in a world stands for operations within their limits (this project's own).
+/// Each operation that a site knows or has in its buffer, or that an entry carries, is within the limits of operations, if the
+/// queues are, there are at most 64 sites, and the values of each command were within theirs. The types `QueueList` and `Event`
+/// ensure the first and the last, and a world has at most 64 sites. So every delta that a world holds stands for operations within
+/// their limits.
 pub fn operations_of_a_world_are_within_limits()
     ensures event { EventsKeepLimits }
     ensures events { WorldsAreWithinLimits }
     ensures held { HoldWithinLimits }
 {}
 
-/// A take that is told as taken gives its site every operation of the entry: the site knows what the
-/// entry carries and what it knew before, and nothing else (RR-7506: a replica merges what it is
-/// sent).
+/// After a take with the outcome `Took(Ok(()))` its site knows what the entry carries and what it knew before, and nothing else
+/// (RR-7506: a replica merges what it is sent).
 pub fn a_take_gives_every_operation_of_its_entry()
     ensures { TakesGive }
 {}
 
-/// Events that are run in parts are run as a whole, and lead on from a world that was led to (this project's own).
+/// To run a list of events in parts is the same as to run it as a whole. A world that events lead to from a reached world is
+/// reached.
 pub fn events_are_run_in_parts()
     ensures parts { (names : List (List ℕ)) (w : World) (first rest : List Event)
         → RunsInParts names w first rest }
     ensures leads { LeadsOn }
 {}
 
-/// Whatever events lead to a world, what each of its sites knows and has in its buffer is small enough for a frame, and so is what each entry carries, under the number
-/// of one of the sites and that of a frame. So each entry fits in a frame, where there are at most 64 sites and the operations of the world are within their limits, and
-/// then it has one within the ranges of the format. And what is held in a world, as each frame of its pool, stands for a knowledge that fits (this project's own).
+/// In each world that events lead to, what each site knows and has in its buffer is small enough for a frame, and so is what each
+/// entry carries; the maker of an entry is a site, and its number is one of a frame. So each entry fits in a frame within the
+/// ranges of the format, if there are at most 64 sites and the operations of the world are within their limits. Every delta that a
+/// world holds, and each frame of its pool, stands for a knowledge that fits.
 pub fn entries_of_a_world_fit_in_frames()
     ensures small { WorldsAreSmall }
     ensures entries { EntriesFit }

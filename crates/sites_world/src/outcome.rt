@@ -1,20 +1,20 @@
 use replica::{CutFault, TakeFault};
 use status_report::Answer;
 
-/// What comes of an event (this project's own).
+/// The outcome of an event.
 #[derive(Drop)]
 pub enum Outcome {
-    /// What was asked is answered; never that memory is wanting.
+    /// The answer to an ask. Never a refusal as out of memory.
     Answered(Answer),
-    /// The entry of a frame that was cut or made of the whole; `None` where there was nothing to cut; or why there is none,
-    /// which is never want of memory.
+    /// The entry of the frame that a cut or a whole made; `None` where the buffer was empty; or why there is no frame,
+    /// which is never `Memory`.
     Cut(Result<Option<usize>, CutFault>),
-    /// The frame was taken; or it is too much: `CellsFull` or `RunsFull`, and no other fault.
+    /// The site joined the frame, or the join would exceed a limit: `CellsFull` or `RunsFull`, and no other fault.
     Took(Result<(), TakeFault>),
     /// There is no such site.
     NoSite,
-    /// There is the site, and no such entry.
+    /// There is the site, but no such entry.
     NoEntry,
-    /// Memory was wanting, and nothing was changed.
+    /// Out of memory. Nothing was changed.
     NoMemory,
 }

@@ -1,4 +1,4 @@
-//! Events, one by one: what each does at its site, and what comes of it.
+//! Runs events one by one: the effect of each at its site, and its outcome.
 ghost use Rattle.std.specs.Prelude.{◌≡◌, ◌↔◌, ◌<◌, ◌≤◌, ◌+◌, ◌++◌, ℕ, List, [], ◌∷◌, Err, IsTrue};
 ghost use Rattle.std.specs.Prelude.{Ok, OnErr, OnOk, Some, length, option_map, slice_get, true};
 ghost use Rattle.std.specs.Prelude.{vec_len, vec_capacity};
@@ -26,7 +26,7 @@ use replica::{CutFault, Frame, Refusal, Replica, TakeFault};
 use status_report::{Answer, Ask, ask};
 use std::alloc::Global;
 
-// The outcome that tells an answer; `NoMemory` for a refusal for want of memory.
+// The outcome of an answer; `NoMemory` for a refusal as out of memory.
 fn answer_told(answer: Answer) -> Outcome
     ensures { result ≡ answer_told answer }
 {
@@ -36,7 +36,7 @@ fn answer_told(answer: Answer) -> Outcome
     }
 }
 
-// Does what is asked of a site.
+// Runs a command at a site, or reports its status.
 fn ask_site(alloc: Global, replica: &mut Replica, asked: Ask) -> Outcome
     ensures site { replica.new.site ≡ replica.old.site }
     ensures names { replica.new.names ≡ replica.old.names }
@@ -55,7 +55,7 @@ fn has_frame_to_cut(replica: &Replica) -> bool
     !replica.pending().is_empty() && replica.last().2 < MOST_COUNT
 }
 
-// Reserves room in the pool for a frame, where `makes` says that there is one to make.
+// Reserves room for one frame in the pool, if `makes` is true.
 fn make_room(pool: &mut Vec<Frame>, makes: bool) -> Result<(), Memory>
     ensures room { OnOk result (makes ≡ true → vec_len pool.new + 1 ≤ vec_capacity pool.new) }
     ensures pool { pool.new.items ≡ pool.old.items }
@@ -68,7 +68,7 @@ fn make_room(pool: &mut Vec<Frame>, makes: bool) -> Result<(), Memory>
     pool.reserve(1)
 }
 
-// Puts a site's buffer into a frame at the end of the pool, or tells why there is none.
+// Puts a site's buffer into a frame at the end of the pool, or returns why there is no frame.
 fn cut_site(replica: &mut Replica, pool: &mut Vec<Frame>) -> Outcome
     ensures site { replica.new.site ≡ replica.old.site }
     ensures names { replica.new.names ≡ replica.old.names }
@@ -93,7 +93,7 @@ fn cut_site(replica: &mut Replica, pool: &mut Vec<Frame>) -> Outcome
     }
 }
 
-// Puts a frame at the end of the pool, where there is room.
+// Puts a frame at the end of the pool, which has room for it.
 fn put_frame(pool: &mut Vec<Frame>, frame: Frame) -> Outcome
     requires { vec_len pool.old + 1 ≤ vec_capacity pool.old }
     ensures told { result ≡ Outcome.Cut (Ok (Some (length pool.old.items))) }
@@ -104,7 +104,7 @@ fn put_frame(pool: &mut Vec<Frame>, frame: Frame) -> Outcome
     Outcome::Cut(Ok(Some(entry)))
 }
 
-// Puts all that a site knows into a frame at the end of the pool, or tells why there is none.
+// Puts everything that a site knows into a frame at the end of the pool, or returns why there is no frame.
 fn whole_site(replica: &mut Replica, pool: &mut Vec<Frame>) -> Outcome
     ensures site { replica.new.site ≡ replica.old.site }
     ensures names { replica.new.names ≡ replica.old.names }
@@ -128,7 +128,7 @@ fn whole_site(replica: &mut Replica, pool: &mut Vec<Frame>) -> Outcome
     }
 }
 
-// The outcome that tells why a frame wasn't taken; `NoMemory` for want of memory.
+// The outcome of a take that fails; `NoMemory` when out of memory.
 fn take_fault_told(fault: TakeFault) -> Outcome
     ensures { result ≡ take_fault_told fault }
 {
@@ -145,7 +145,7 @@ pub(crate) fn frame_at(pool: &[Frame], entry: usize) -> Option<&Frame>
     pool.get(entry)
 }
 
-// Lets a site take a copy of a frame. What is said of it is of a frame that the site may join.
+// A site takes a copy of a frame. The contract holds for a frame that the site may join.
 fn take_site(replica: &mut Replica, frame: &Frame) -> Outcome
     ensures site { replica.new.site ≡ replica.old.site }
     ensures names { replica.new.names ≡ replica.old.names }
@@ -178,7 +178,7 @@ fn site_of(event: &Event) -> SiteId
     }
 }
 
-// Does an event at its site, which is this replica, and tells what comes of it.
+// Runs an event at its site, which is this replica, and returns its outcome.
 fn happen_at(alloc: Global, replica: &mut Replica, pool: &mut Vec<Frame>, event: Event) -> Outcome
     ensures site { replica.new.site ≡ replica.old.site }
     ensures names { replica.new.names ≡ replica.old.names }
@@ -209,7 +209,7 @@ fn happen_at(alloc: Global, replica: &mut Replica, pool: &mut Vec<Frame>, event:
     }
 }
 
-// Does an event at its site, and tells what comes of it; `NoSite` where there is no such site.
+// Runs an event at its site, and returns its outcome; `NoSite` where there is no such site.
 pub(crate) fn happen(
     alloc: Global,
     sites: &mut Vec<Replica>,
@@ -242,7 +242,7 @@ pub(crate) fn happen(
     }
 }
 
-// Does a copy of an event. Where memory for the copy is wanting the outcome is `NoMemory`, if there is the site, else `NoSite`.
+// Runs a copy of an event. If the copy runs out of memory the outcome is `NoMemory` where there is the site, else `NoSite`.
 fn happen_by_copy(
     alloc: Global,
     sites: &mut Vec<Replica>,
@@ -270,7 +270,7 @@ fn happen_by_copy(
     }
 }
 
-// Does events in turn, and puts what comes of each at the end of the outcomes, where there is room for all.
+// Runs events in turn, and puts the outcome of each at the end of `outcomes`, which has room for all.
 pub(crate) fn run_all(
     alloc: Global,
     sites: &mut Vec<Replica>,

@@ -18,8 +18,8 @@ use replica::{Frame, QueueList, Replica};
 use std::alloc::Global;
 use std::marker::Model;
 
-/// All sites in one process, with the pool of the frames that they made. There is a world of operations that it stands for, to which
-/// events lead from sites that know nothing.
+/// All sites in one process, with the pool of the frames that they made. It stands for a world of operations to which events lead
+/// from new sites.
 #[derive(Drop)]
 pub struct World {
     list: QueueList,
@@ -43,7 +43,7 @@ impl Model for World {
     }) };
 }
 
-// As many new sites as `sites` says, each with a copy of the list.
+// Makes `sites` new sites, each with a copy of the list.
 fn new_sites(alloc: Global, sites: u16, list: &QueueList) -> Result<Vec<Replica>, Memory>
     requires { sites ≤ SITES }
     ensures count { IfOk result (λ made. length made.items ≡ sites) }
@@ -62,8 +62,8 @@ fn new_sites(alloc: Global, sites: u16, list: &QueueList) -> Result<Vec<Replica>
 }
 
 impl World {
-    /// A world of `sites` sites that know nothing yet, 1 to 64, each with these queues, and of no frame. Faults, in order: `BadSites`,
-    /// exactly where that is 0 or more than 64; `Memory` (this project's own).
+    /// A world of `sites` new sites, 1 to 64, each with these queues, and of no frame. Errors, in order: `BadSites` if and only if
+    /// `sites` is 0 or more than 64; `Memory`.
     pub fn new(alloc: Global, sites: u16, list: &QueueList) -> Result<World, WorldFault>
         ensures names { IfOk result (λ world. world.names ≡ list.now) }
         ensures count { IfOk result (λ world. length world.sites ≡ sites) }
@@ -88,14 +88,13 @@ impl World {
         }
     }
 
-    /// Does an event at its site, and answers what comes of it: `NoSite` exactly where there is no such site, else, if it takes,
-    /// `NoEntry` exactly where there is no such entry. An event that memory is wanting for has the outcome `NoMemory`; a cut or a whole
-    /// has it only where there is a frame to make, and a number for it. Each other event leads to what it leads to in the world of
-    /// operations, with the outcome that it has there (RR-7506: what a site shows is the reading of the updates that were delivered to
-    /// it; the events are this project's own). So each report is the status text of what its site knows then, and no frame is refused
-    /// as `NoSuchQueue`, `NotMine` or `Conflict`. After `NoMemory`, and after each other outcome that tells that nothing is changed,
-    /// the sites say what they said and the pool is as it was. The clause `conditions` tells all of it of states and frames alone,
-    /// without a world of operations.
+    /// Runs an event at its site and returns its outcome: `NoSite` exactly where there is no such site, else, for a take, `NoEntry`
+    /// exactly where there is no such entry. An event that runs out of memory has the outcome `NoMemory`; a cut or a whole has it
+    /// only where there is a frame to make, and a number for it. Each other event has the effect and the outcome that it has in the
+    /// world of operations (RR-7506: what a site shows is the reading of the updates that were delivered to it). So each report is
+    /// the status text of what its site knows then, and no take fails with `NoSuchQueue`, `NotMine` or `Conflict`. After
+    /// `NoMemory`, and after each other outcome that changes nothing, the sites say what they said before and the pool is the same.
+    /// The clause `conditions` states all of this of states and frames alone, without a world of operations.
     pub fn happen(&mut self, event: Event) -> Outcome
         ensures was { IsWorld self.old }
         ensures meaning { (w : world_of_operations)
@@ -114,8 +113,8 @@ impl World {
         happen(alloc, &mut self.sites, &mut self.pool, event)
     }
 
-    /// Does copies of these events in turn, as `happen` does one, and answers what comes of each. An event for whose copy memory is
-    /// wanting has the outcome `NoMemory` too, if there is its site. The one fault is want of memory, before the first event.
+    /// Runs copies of these events in turn, as `happen` runs one, and returns their outcomes. An event whose copy runs out of
+    /// memory has the outcome `NoMemory`, if there is its site. Fails only when out of memory, before the first event.
     pub fn run(&mut self, events: &[Event]) -> Result<Vec<Outcome>, Memory>
         ensures was { IsWorld self.old }
         ensures meaning { IfOk result (λ outcomes. (w : world_of_operations)
@@ -141,7 +140,7 @@ impl World {
         Ok(outcomes)
     }
 
-    /// The replica of this site. `None` where there is no such site. It takes no memory, like all that only reads.
+    /// The replica of this site. `None` where there is no such site. Takes no memory.
     pub fn replica(&self, site: SiteId) -> Option<&Replica>
         ensures value { option_map (λ replica. replica.now) result
             ≡ slice_get self.now.sites site }
@@ -160,7 +159,7 @@ impl World {
         frame_at(self.pool.as_slice(), entry)
     }
 
-    /// How many entries the pool has.
+    /// The number of entries in the pool.
     pub fn entries(&self) -> usize
         ensures { result ≡ length self.now.pool }
     {

@@ -1,6 +1,6 @@
 use thiserror::Error;
 
-/// Why there is no world of a number of sites. Of several faults the first of this list is answered (this project's own).
+/// Why there is no world of a number of sites. Where several faults apply, `World::new` returns the first of this list.
 #[derive(Clone, Copy, Debug, PartialEq, Eq, Error)]
 pub enum WorldFault {
     /// There are not from 1 to 64 sites.

@@ -84,7 +84,7 @@ module _ (request : StatusRequest) (totals : ℕ → CallTotals) (rows : ℕ →
   blocks_first (name ∷ names) (suc i) n lt = blocks_first names i n (omega arith)
 
   module _ (names : List (List ℕ)) (number : ℕ) where
-    -- those of a queue, and of the queues after it
+    -- the blocks of a queue, and of the queues after it
     pub blocks_from_more : number < length names → blocks_from request totals rows names number ≡ blocks_named request totals rows number (slice_get names number) ++ blocks_from request totals rows names (number + 1)
     blocks_from_more lt =
         let next : suc number ≡ number + 1 = omega arith in

@@ -1,4 +1,4 @@
--- What a site that knows these operations answers: the report of what they show (Asterisk's QueueStatus), and commands by their
+-- The answers of a site that knows these operations: the report of what they show (Asterisk's QueueStatus), and commands by their
 -- meaning.
 use Rattle.std.specs.Prelude.{ℕ, ◌≡◌, ◌⊎◌, List}
 use Rattle.dots.specs.declared.call_totals.CallTotals.{CallTotals}
@@ -31,21 +31,21 @@ status_in k names request = status_text names (totals_in k) (rows_of (dot_view k
 abbrev pub SameStatusTexts : Type 0
 SameStatusTexts = (k l : Knowledge) (names : List (List ℕ)) (request : StatusRequest) → IsConsistent k → SameOperations k l → status_in k names request ≡ status_in l names request
 
--- what a site of this number with these queues answers, and what it knows then: a command is one step of the site, a status is
+-- the answer of a site of this number with these queues, and what it knows then: a command is one step of the site; a status is
 -- answered by its text, and changes nothing
 abbrev pub answer_in : ℕ → List (List ℕ) → SiteKnowledge → Ask → SiteKnowledge × Answer
 answer_in site names s (asked_command command) = let done = step site names s (Do (change_of command)) in (done.0, answer_of (result_of done.1))
 answer_in site names s (Status request) = (s, Report (status_in s.known names request))
 
--- a state, and an answer, are those of a site that knows this now; or memory is wanting, and the site says the same as before
+-- a state, and an answer, are those of a site that knows this now; or the site is out of memory, and says the same as before
 abbrev pub IsAnswered : SiteState → SiteState → Answer → SiteKnowledge × Answer → Type 0
 IsAnswered old new answer after = (StandsFor new after.0 × (answer ≡ after.1)) ⊎ (IsUnchanged old new × (answer ≡ Refused Memory))
 
--- what may come of an ask, in place of what a site tells of it: that, or want of memory, and then the site knows what it knew
+-- the result of an ask is the given one; or it is out of memory, and then the site knows what it knew
 abbrev pub MayComeOf : SiteKnowledge → SiteKnowledge × Answer → SiteKnowledge × Answer → Type 0
 MayComeOf s told after = (after ≡ told) ⊎ ((after.0 ≡ s) × (after.1 ≡ Refused Memory))
 
--- the step of one site is an answer, and the site after it, for which the new state stands
+-- an answer is that of one step of a site, and the new state stands for the site after it
 pub record IsOneStep (new : SiteState) (answer : Answer) (s : SiteKnowledge) (told : SiteKnowledge × Answer) : Type 0 where
   pub after : SiteKnowledge
   pub stands : StandsFor new after

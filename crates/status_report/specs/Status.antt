@@ -17,12 +17,12 @@ abbrev pub text_shown : List ℕ → List ℕ → List ℕ
 text_shown [] interface = interface
 text_shown (x ∷ xs) interface = x ∷ xs
 
--- the request shows this queue
+-- the request selects this queue
 abbrev pub is_queue_wanted : Option (List ℕ) → List ℕ → Bool
 is_queue_wanted None name = true
 is_queue_wanted (Some wanted) name = bytes_eq wanted name
 
--- the request shows this member: its interface or its name, as it is shown, is the text of the filter
+-- the request selects this member: its interface or its name, as it is shown, is the text of the filter
 abbrev pub is_member_wanted : Option (List ℕ) → Row → Bool
 is_member_wanted None row = true
 is_member_wanted (Some wanted) row = bytes_eq wanted row.0 || bytes_eq wanted (text_shown row.1.name row.0)
@@ -76,11 +76,11 @@ closing action_id items =
     ++ (field (codes "ListItems") (decimal items)
     ++ end))
 
--- the blocks of a queue's members that the request shows
+-- the blocks of a queue's members that the request selects
 abbrev pub member_blocks : StatusRequest → List ℕ → List Row → List (List ℕ)
 member_blocks request name rows = each (member_block request.action_id name) (filter (is_member_wanted request.member) rows)
 
--- the blocks of a queue: its own and its members', none where the request leaves it out
+-- the blocks of a queue: its own and its members', none if the request doesn't select it
 abbrev pub queue_blocks : StatusRequest → List ℕ → CallTotals → List Row → List (List ℕ)
 queue_blocks request name totals rows =
     if is_queue_wanted request.queue name then queue_block request.action_id name totals ∷ member_blocks request name rows else []

@@ -4,7 +4,7 @@ use crate::{SharedBytes, StatusRequest};
 use dots::Memory;
 use replica::{Command, Refusal};
 
-/// What may be asked of a site.
+/// An ask of a site.
 #[derive(Drop)]
 pub enum Ask {
     /// A change of the queue members, or a call that is counted.
@@ -14,7 +14,7 @@ pub enum Ask {
 }
 
 impl Ask {
-    /// The same ask once more. The one fault is want of memory, and a command takes none.
+    /// Returns a copy. Fails only when out of memory, and never for a command.
     pub fn copy(&self) -> Result<Ask, Memory>
         ensures same { IfOk result (λ copy. copy ≡ self.now) }
         ensures command { (command : Command) → self.now ≡ Ask.Command command → IsOk result }
@@ -28,7 +28,7 @@ impl Ask {
         }
     }
 
-    /// Whether it is the same ask as the other. It takes no memory.
+    /// Whether it is the same ask as the other. Takes no memory.
     pub fn same(&self, other: &Ask) -> bool
         ensures { IsTrue result ↔ (self.now ≡ other.now) }
     {
@@ -40,19 +40,20 @@ impl Ask {
     }
 }
 
-/// What a site answers.
+/// A site's answer to an ask.
 #[derive(Drop)]
 pub enum Answer {
     /// The command is done.
     Done,
-    /// The command is refused, and nothing was changed.
+    /// The command is refused, and changed nothing.
     Refused(Refusal),
     /// The bytes of the report.
     Report(SharedBytes),
 }
 
 impl Answer {
-    /// The same answer once more; a report is shared, and none of its bytes is copied. The one fault is `Memory`, as of a shared report.
+    /// Returns a copy, which shares a report and copies none of its bytes. Fails only with `Memory`, as the copy of a shared report
+    /// does.
     pub fn copy(&self) -> Result<Answer, Memory>
         ensures same { IfOk result (λ copy. copy ≡ self.now) }
         ensures done { self.now ≡ Answer.Done → IsOk result }
@@ -68,7 +69,7 @@ impl Answer {
         }
     }
 
-    /// Whether it is the same answer as the other. It takes no memory.
+    /// Whether it is the same answer as the other. Takes no memory.
     pub fn same(&self, other: &Answer) -> bool
         ensures { IsTrue result ↔ (self.now ≡ other.now) }
     {

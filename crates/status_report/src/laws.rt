@@ -1,4 +1,4 @@
-//! What the definitions of the status text and of answers promise. The functions have no body: their contracts are the laws.
+//! Laws of the status text and of answers. The functions have no body: their contracts are the laws.
 ghost use Rattle.std.specs.Prelude.{◌≡◌};
 ghost use Rattle.replica.specs.Site.{IsSameSite, SiteState};
 ghost use Rattle.replica.specs.Standing.{StandsFor};
@@ -10,8 +10,8 @@ ghost use Rattle.status_report.specs.Knowing.{IsAnswered, IsOneStep, SameStatusT
 ghost use Rattle.status_report.specs.Knowing.{status_in};
 ghost use Rattle.status_report.specs.Status.{report_of};
 
-/// Consistent knowledges of the same operations have the same status texts, so neither the order of operations nor their
-/// repetition shows (RR-7506: replicas that have delivered the same updates are equivalent).
+/// Consistent knowledges of the same operations have the same status texts, so a status doesn't depend on the order of operations
+/// or their repetition (RR-7506: replicas that have delivered the same updates are equivalent).
 pub fn knowledges_of_the_same_operations_have_the_same_status()
     ensures { SameStatusTexts }
 {}
@@ -28,8 +28,8 @@ pub fn sites_that_say_the_same_have_the_same_report()
         → report_of s request ≡ report_of t request }
 {}
 
-/// Whatever is answered by the contract of `ask` is one step of the site: the new state stands for what the site knows then. That is what it knows after its own
-/// answer; or what it knew, and the refusal `Memory` stands in the place of that answer (this project's own).
+/// Each answer of `ask` is one step of the site: the new state stands for what the site knows after its own answer; or for what it
+/// knew, and the answer is the refusal `Memory` (this project's own).
 pub fn an_ask_is_one_step_of_a_site()
     ensures { (old new : SiteState) (s : SiteKnowledge) (asked : Ask) (answer : Answer)
         → StandsFor old s

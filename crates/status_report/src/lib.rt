@@ -1,7 +1,7 @@
-//! The report that answers QueueStatus, and the asks that a site answers.
+//! The report of a QueueStatus, and the asks that a site answers.
 //!
-//! A report is written from what queues show alone: their names, totals and rows. Two replicas that show the same give the
-//! same bytes.
+//! A report depends only on what queues show: their names, totals and rows. Two replicas that show the same give the same
+//! bytes.
 #![tactic(auto)]
 
 ghost use Rattle.std.specs.Prelude.{◌≡◌, IfOk};
@@ -41,7 +41,7 @@ fn answer_command(replica: &mut Replica, command: &Command) -> Answer
     }
 }
 
-// The report of what a site's queues show, to be shared.
+// The report of what a site's queues show, as shared bytes.
 fn shared_report(
     alloc: Global,
     replica: &Replica,
@@ -65,8 +65,8 @@ fn answer_status(alloc: Global, replica: &Replica, request: &StatusRequest) -> A
     }
 }
 
-/// Does what is asked of a site: a command changes the replica or is refused and changes nothing; a status
-/// leaves the replica as it was, and where memory for its report is wanting it is refused as `Memory`.
+/// Answers an ask: a command changes the replica, or is refused and changes nothing; a status leaves the replica as it
+/// was, and is refused as `Memory` if there is no memory for its report.
 pub fn ask(alloc: Global, replica: &mut Replica, asked: &Ask) -> Answer
     ensures command { AnswersCommand replica.old asked.now replica.new result }
     ensures status { AnswersStatus replica.old asked.now result }
@@ -74,7 +74,7 @@ pub fn ask(alloc: Global, replica: &mut Replica, asked: &Ask) -> Answer
     ensures site { replica.new.site ≡ replica.old.site }
     ensures names { replica.new.names ≡ replica.old.names }
 
-    // Where the replica stands for what a site knows, the answer is that site's.
+    // If the replica stands for what a site knows, the answer is that site's.
     ensures meaning { (s : SiteKnowledge) → StandsFor replica.old s
         → IsAnswered replica.old replica.new result
         (answer_in replica.old.site replica.old.names s asked.now) }

@@ -8,7 +8,7 @@ use dots::{CallTotals, Interface, Memory};
 use replica::{QueueList, Replica, Row};
 use std::alloc::Global;
 
-/// What a report is written from: the queues of a site, and of each its totals of calls and its members' rows.
+/// The source of a report: the queues of a site, with the totals of calls and the members' rows of each.
 pub trait Queues {
     /// The names of the queues, in the order of their numbers.
     ghost names: { Self → List (List ℕ) };
@@ -23,12 +23,12 @@ pub trait Queues {
     fn list(&self) -> &QueueList
         ensures { result.now ≡ names self.now };
 
-    /// How many calls of the queue of this number were completed, and how many abandoned.
+    /// The number of calls of the queue of this number that were completed, and that were abandoned.
     fn totals(&self, number: u16) -> CallTotals
         ensures { result ≡ totals self.now number };
 
-    /// The members of the queue of this number with their rows, in the order of their interfaces' bytes. The one
-    /// fault is want of memory.
+    /// The members of the queue of this number with their rows, in the order of their interfaces' bytes. Fails
+    /// only when out of memory.
     fn rows(&self, alloc: Global, number: u16) -> Result<Vec<(&Interface, Row<'_>)>, Memory>
         ensures { IfOk result
             (λ listed. each listed_row_view listed.items ≡ rows self.now number) };

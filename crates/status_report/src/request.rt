@@ -2,19 +2,19 @@ ghost use Rattle.std.specs.Prelude.{◌≡◌, ◌↔◌, IfOk, IsTrue};
 
 use dots::{Bytes, Memory, Text80};
 
-/// What a QueueStatus asks for (Asterisk's QueueStatus). Filters compare whole texts byte by byte, and an absent
-/// one leaves nothing out (this project's own).
+/// The request of a QueueStatus (Asterisk's QueueStatus). Filters compare whole texts byte by byte; an absent
+/// filter selects everything.
 #[derive(Drop)]
 pub struct StatusRequest {
-    /// Shows the queue of this name alone.
+    /// Selects only the queue of this name.
     pub queue: Option<Text80>,
-    /// Shows the members alone whose interface, or whose name as it is shown, is this text.
+    /// Selects only the members whose interface, or whose name as it is shown, is this text.
     pub member: Option<Text80>,
-    /// The ActionID that each block of the report repeats; no bytes where there is none.
+    /// The ActionID that each block of the report repeats; no bytes if there is none.
     pub action_id: Bytes,
 }
 
-// A filter once more, where there is one.
+// A copy of a filter, if there is one.
 fn copy_filter(filter: &Option<Text80>) -> Option<Text80>
     ensures { result ≡ filter.now }
 {
@@ -25,7 +25,7 @@ fn copy_filter(filter: &Option<Text80>) -> Option<Text80>
 }
 
 impl StatusRequest {
-    /// The same request once more. The one fault is want of memory.
+    /// Returns a copy. Fails only when out of memory.
     pub fn copy(&self) -> Result<StatusRequest, Memory>
         ensures { IfOk result (λ copy. copy ≡ self.now) }
     {
@@ -37,7 +37,7 @@ impl StatusRequest {
         })
     }
 
-    /// Whether it is the same request as the other. It takes no memory.
+    /// Whether it is the same request as the other. Takes no memory.
     pub fn same(&self, other: &StatusRequest) -> bool
         ensures { IsTrue result ↔ (self.now ≡ other.now) }
     {

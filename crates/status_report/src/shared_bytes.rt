@@ -5,8 +5,8 @@ use std::alloc::Global;
 use std::marker::Model;
 use std::sync::Arc;
 
-/// Bytes that several owners have, such as a report that stands in a journal and is written to a client. A copy is one owner more, and
-/// copies no byte (this project's own).
+/// Bytes with several owners, such as a report that is in a journal and is written to a client. A copy adds an owner, and copies no
+/// byte.
 #[derive(Drop)]
 pub struct SharedBytes {
     shared: Arc<Vec<u8>>,
@@ -22,7 +22,7 @@ impl Model for SharedBytes {
 }
 
 impl SharedBytes {
-    /// Shares the bytes of a vector, which are not copied. The one fault is want of memory.
+    /// Shares the bytes of a vector without copying them. Fails only when out of memory.
     pub fn new(alloc: Global, bytes: Vec<u8>) -> Result<SharedBytes, Memory>
         ensures { IfOk result (λ made. made ≡ bytes.items) }
     {
@@ -39,7 +39,7 @@ impl SharedBytes {
         self.shared.as_slice()
     }
 
-    /// The same bytes, with one owner more. It takes no memory. The one fault is `Memory`, where they have 2^63 - 1 owners.
+    /// Returns one more owner of the same bytes. Takes no memory. Fails only with `Memory`, if they have 2^63 - 1 owners.
     pub fn copy(&self) -> Result<SharedBytes, Memory>
         ensures { IfOk result (λ copy. copy ≡ self.now) }
     {
@@ -47,8 +47,8 @@ impl SharedBytes {
         Ok(SharedBytes { shared })
     }
 
-    /// Gives up this owner for the bytes: the vector itself where it was the only owner, else a copy of it. The one fault is want of
-    /// memory, for that copy.
+    /// Drops this owner and returns the bytes: the vector itself if it was the only owner, otherwise a copy. Fails only when out of
+    /// memory for that copy.
     pub fn into_vec(self, alloc: Global) -> Result<Vec<u8>, Memory>
         ensures { IfOk result (λ bytes. bytes.items ≡ self) }
     {

@@ -98,7 +98,7 @@ fn push_member(
     push_end(out)
 }
 
-// The blocks of the members of a queue that the request doesn't leave out, and how many they are.
+// The blocks of the members of a queue that the request selects, and their number.
 fn push_members(
     out: &mut Vec<u8>,
     request: &StatusRequest,
@@ -147,7 +147,7 @@ fn push_totals(
     push_end(out)
 }
 
-// The blocks of the queue of this number, and how many they are: none where the request leaves it out.
+// The blocks of the queue of this number, and their number: none if the request doesn't select it.
 fn push_queue<Q: Queues>(
     alloc: Global,
     out: &mut Vec<u8>,
@@ -175,10 +175,15 @@ fn push_queue<Q: Queues>(
     Ok(1 + members)
 }
 
-/// The report of what queues show: a block that opens it, then for each queue of the list that the request doesn't
-/// leave out a block of its totals and one block a member, in the order of the interfaces' bytes, and a block that
-/// closes it with the number of blocks between (Asterisk's QueueStatus; which fields there are and their order are
-/// this project's own). The one fault is want of memory.
+/// The report of what queues show (Asterisk's QueueStatus; which fields there are and their order are this project's
+/// own):
+///
+/// 1. an opening block,
+/// 2. for each queue of the list that the request selects, a block of its totals and a block for each member, in the
+///    order of the interfaces' bytes,
+/// 3. a closing block with the number of blocks between.
+///
+/// Fails only when out of memory.
 pub fn write_report<Q: Queues>(
     alloc: Global,
     queues: &Q,
@@ -197,8 +202,8 @@ pub fn write_report<Q: Queues>(
     Ok(out)
 }
 
-/// The report of what the replica's queues show, as `write_report` writes it. Where the replica stands for what a site
-/// knows, it is the status text of that. The one fault is want of memory.
+/// The report of what the replica's queues show, as `write_report` writes it. If the replica stands for what a site
+/// knows, it is the status text of that knowledge. Fails only when out of memory.
 pub fn report(alloc: Global, replica: &Replica, request: &StatusRequest) -> Result<Vec<u8>, Memory>
     ensures value { IfOk result (λ out. out.items ≡ report_of replica.now request.now) }
     ensures meaning { IfOk result (λ out. (s : SiteKnowledge) → StandsFor replica.now s

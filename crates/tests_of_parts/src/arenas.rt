@@ -187,7 +187,7 @@ fn the_cell_that_was_taken_last_is_used_first(rt: HostRuntime) {
     drop(arena);
 }
 
-// One cell of two generations holds two values, one after the other.
+// One cell of two generations holds two values, in order.
 #[test]
 fn a_taken_cell_is_used_in_its_next_generation(rt: HostRuntime) {
     let mut arena: Arena<u32, 1> = Arena::new(rt.alloc());

@@ -7,7 +7,7 @@ use crate::shared::{
 use member_orset::{CellId, MemberSet};
 use std::process::Abort;
 
-// The id of a live dot, which answers its member.
+// The id of a live dot. Asserts that the id gives the dot's member.
 fn id_of(rt: &impl Abort, set: &MemberSet, told: ToldDot, of: ToldMember) -> CellId {
     let id = set.id(dot(rt, told)).expect(rt, "an id");
     let cell = set.at(id).expect(rt, "a live dot");
@@ -15,7 +15,7 @@ fn id_of(rt: &impl Abort, set: &MemberSet, told: ToldDot, of: ToldMember) -> Cel
     id
 }
 
-// Asserts that an id answers nothing, and that the first dot has none.
+// Asserts that an id gives no member, and that the first dot has no id.
 fn assert_dead(rt: &impl Abort, set: &MemberSet, id: CellId) {
     assert!(rt; set.at(id).is_none());
     assert!(rt; set.id(dot(rt, FIRST)).is_none());
@@ -49,13 +49,13 @@ fn an_id_answers_while_its_dot_is_live(rt: HostRuntime) {
     drop(set);
 }
 
-// Lets a dot of a site be live and dead again.
+// Makes a dot of a site live, and dead again.
 fn come_and_go(rt: &impl Abort, set: &mut MemberSet, count: u64) {
     let dot = (0, count);
     do_changes(rt, set, &[Assert(dot, SIP_1, 5, 7), Kill(dot)]);
 }
 
-// More dots than there are places at once, each let live and let dead before the next.
+// More dots than there are places, each made live and dead before the next.
 #[test]
 fn places_are_used_again(rt: HostRuntime) {
     let mut set = MemberSet::new(rt.alloc());

@@ -1,4 +1,4 @@
-//! Deltas: members and totals that are joined at once. What joins say is shown by the cases of `cases/deltas`.
+//! Deltas: members and totals that are joined together. The cases of `cases/deltas` show the results of joins.
 use crate::shared::Change::Assert;
 use crate::shared::{FIRST, SIP_1, SIP_2, ToldMember, set_of, totals_of};
 use delta::{Delta, JoinFault};

@@ -2,25 +2,25 @@
 use devector::Devector;
 use std::process::Abort;
 
-// Puts an item in at a place, for which there must be room.
+// Inserts an item at a place, for which there must be room.
 fn insert(rt: &impl Abort, items: &mut Devector<u32>, place: usize, item: u32) {
     assert!(rt; place <= items.len() && items.len() < items.room());
     items.insert(place, item);
 }
 
-// Takes out the item at a place, and asserts what it is.
+// Removes the item at a place, and asserts its value.
 fn remove(rt: &impl Abort, items: &mut Devector<u32>, place: usize, want: u32) {
     assert!(rt; place < items.len());
     assert!(rt; items.remove(place) == want);
 }
 
-// Asserts what the items are, and for how many there is room.
+// Asserts the items, and for how many there is room.
 fn assert_items(rt: &impl Abort, items: &Devector<u32>, want: &[u32], room: usize) {
     assert!(rt; items.as_slice() == want);
     assert!(rt; items.room() == room);
 }
 
-// Puts the numbers from 3 to 999 in behind, and takes the least out in front before the next.
+// Appends the numbers from 3 to 999, and removes the least from the front before each further one.
 fn pass_through(rt: &impl Abort, items: &mut Devector<u32>) {
     for item in 3..1000 {
         insert(rt, items, 3, item);
@@ -28,7 +28,7 @@ fn pass_through(rt: &impl Abort, items: &mut Devector<u32>) {
     }
 }
 
-// What comes out in front leaves room for what goes in behind, however often.
+// What is popped at the front leaves room for pushes at the back, however often.
 #[test]
 fn a_queue_stays_in_its_room(rt: HostRuntime) {
     let mut items: Devector<u32> = Devector::new(rt.alloc());

@@ -1,5 +1,5 @@
-//! Tests of what a site's state is made of, by their public calls: values, arenas, devectors, contexts, totals, sets of members and deltas.
-//! This crate has no code of its own.
+//! Tests of the parts of a site's state, by their public calls: values, arenas, devectors, contexts, totals, sets of members and
+//! deltas. This crate has no code of its own.
 #![tactic(auto)]
 
 #[cfg(test)]

@@ -1,6 +1,5 @@
-//! Sets of members: what asserts and kills say, what is read of a set, and joins for which there is memory, or none. What joins say is
-//! shown by the cases of `cases/deltas`, joins at the limits by tools/limit_tests.py, and how sets are built by the cases of
-//! `cases/frames`.
+//! Sets of members: asserts and kills, reads of a set, and joins with ample memory or none. The cases of `cases/deltas` show the
+//! results of joins, tools/limit_tests.py joins at the limits, and the cases of `cases/frames` how sets are built.
 ghost use Rattle.std.specs.Prelude.{◌≤◌};
 
 use crate::shared::Change::{Assert, Kill};
@@ -116,7 +115,7 @@ fn a_set_is_built_of_known_and_live_dots(rt: HostRuntime) {
     drop(set);
 }
 
-// Lets every second dot of a site be dead from the count `first` on, `dots` in all.
+// Makes every second dot of a site dead from the count `first` on, `dots` in all.
 fn kill_dots(rt: &impl Abort, set: &mut MemberSet, site: u16, first: u64, dots: u64)
     requires start { first ≤ 2 }
     requires few { dots ≤ 65536 }
@@ -191,7 +190,7 @@ fn assert_all_seen(rt: &impl Abort, set: &MemberSet) {
         &[(2, 131_067), SECOND],
         65_535,
     );
-    // As many runs as there may be.
+    // The greatest number of runs.
     assert_seen(
         rt,
         set,
@@ -202,7 +201,7 @@ fn assert_all_seen(rt: &impl Abort, set: &MemberSet) {
     );
 }
 
-// Asserts which dots SIP/2 has, in their order.
+// Asserts which dots SIP/2 has, in order.
 fn assert_dots(rt: &impl Abort, set: &MemberSet) {
     let sip = member(rt, SIP_2);
     let mut dots = set.dots(&sip);
@@ -211,7 +210,7 @@ fn assert_dots(rt: &impl Abort, set: &MemberSet) {
     assert!(rt; dots.next().is_none());
 }
 
-// Asserts the row of SIP/2, which is of equal stamps that of the least dot.
+// Asserts the row of SIP/2, which is for equal stamps that of the least dot.
 fn assert_row(rt: &impl Abort, set: &MemberSet) {
     let sip = member(rt, SIP_2);
     let row = set.row(&sip).expect(rt, "a row");
@@ -258,7 +257,7 @@ fn dots_rows_and_runs_are_read_of_a_set(rt: HostRuntime) {
     drop(set);
 }
 
-// Lets the first `dots` dots of a site be live.
+// Makes the first `dots` dots of a site live.
 fn put_dots(rt: &impl Abort, set: &mut MemberSet, site: u16, dots: u64)
     requires { dots ≤ 65536 }
 {
@@ -282,7 +281,7 @@ fn assert_refused(
     drop(back);
 }
 
-// Joins a set, and answers whether there was memory for that. Where there was none, both say what they said.
+// Joins a set, and returns whether there was memory for that. Where there was none, asserts that both sets are unchanged.
 fn is_joined(
     rt: &impl Abort,
     set: &mut MemberSet,
@@ -304,7 +303,7 @@ fn print(rt: &(impl Abort + Print), word: &str) {
     assert!(rt; println!(rt; "{word}").is_ok());
 }
 
-// Joins a set, whatever memory there is, and prints how that ended.
+// Joins a set, with ample memory or not, and prints how that ended.
 fn join_if_it_can(rt: &(impl Abort + Print), set: &mut MemberSet, other: MemberSet) {
     let before = set.copy().expect(rt, "memory");
     let other_before = other.copy().expect(rt, "memory");
@@ -315,7 +314,7 @@ fn join_if_it_can(rt: &(impl Abort + Print), set: &mut MemberSet, other: MemberS
     drop(other_before);
 }
 
-// A set of live dots of one site, and dead dots of another: each is told by the site and by how many there are.
+// A set of live dots of one site, and dead dots of another: each pair is a site and the number of its dots.
 fn live_and_dead(rt: &impl Abort, alloc: Global, live: (u16, u64), dead: (u16, u64)) -> MemberSet
     requires live { live.1 ≤ 65536 }
     requires dead { dead.1 ≤ 65536 }

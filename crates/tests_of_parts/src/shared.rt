@@ -1,4 +1,4 @@
-//! What these tests make and assert alike: values, which are told as numbers and texts, and sets and totals that are made of them.
+//! What these tests share: values, which are written as numbers and texts, and sets and totals made of them.
 ghost use Rattle.std.specs.Prelude.{◌≢◌, None};
 ghost use Rattle.member_orset.specs.Members.{HasField};
 
@@ -10,7 +10,7 @@ use site_totals::{CallTotals, Totals};
 use std::alloc::Global;
 use std::process::Abort;
 
-// A dot, told as its site and its count.
+// A dot, as its site and its count.
 pub(crate) type ToldDot = (u16, u64);
 
 pub(crate) const FIRST: ToldDot = (0, 1);
@@ -19,7 +19,7 @@ pub(crate) const SECOND: ToldDot = (0, 2);
 
 pub(crate) const OTHER: ToldDot = (1, 1);
 
-// A member of queue 0, told as its interface.
+// A member of queue 0, as its interface.
 pub(crate) type ToldMember = &'static str;
 
 pub(crate) const SIP_1: ToldMember = "SIP/1";

@@ -1,5 +1,5 @@
-//! Frames as bytes: one that is read in version 1 and spelled again, in version 2, whatever memory there is. What frames say, and which
-//! fault other bytes have, is shown by the cases of `cases/frames`.
+//! Frames as bytes: one that is decoded in version 1 and encoded again in version 2, with ample memory or not. The cases of
+//! `cases/frames` show what frames say, and the faults of other bytes.
 use crate::parse_frames::bytes_of;
 use delta_codec::{DecodeFault, Frame, decode, encode};
 use std::alloc::Global;
@@ -14,7 +14,7 @@ fn has_fault(alloc: Global, bytes: &[u8], fault: DecodeFault) -> bool {
     }
 }
 
-// Spells a frame, which must give these bytes, and answers whether there was memory for that.
+// Encodes a frame, which must give these bytes. Returns whether there was memory for that.
 fn is_spelled(rt: &impl Abort, alloc: Global, frame: &Frame, bytes: &[u8]) -> bool {
     match encode(alloc, frame) {
         Ok(spelled) => {
@@ -25,8 +25,8 @@ fn is_spelled(rt: &impl Abort, alloc: Global, frame: &Frame, bytes: &[u8]) -> bo
     }
 }
 
-// Reads the frame that bytes spell, which is the first of its site, and spells it again, which must give other ones. Answers whether there
-// was memory for both.
+// Decodes a frame, which is the first of its site, and encodes it again, which must give the other bytes. Returns whether there was
+// memory for both.
 fn is_read_and_spelled(rt: &impl Abort, alloc: Global, bytes: &[u8], again: &[u8]) -> bool {
     match decode(alloc, bytes) {
         Ok((frame, len)) => {
@@ -47,8 +47,8 @@ fn print(rt: &(impl Abort + Print), word: &str) {
     assert!(rt; println!(rt; "{word}").is_ok());
 }
 
-// A frame without a ring has the same bytes in both versions, but for the version itself. Whatever memory there is, what is at fault up to
-// the heading is told. tools/memory_tests.py runs this test with each allocation refused in turn.
+// A frame without a ring has the same bytes in both versions, except the version itself. A fault in the part up to the heading is
+// reported whether or not memory is refused. tools/memory_tests.py runs this test with each allocation refused in turn.
 #[test]
 fn a_frame_is_read_and_spelled_again_or_memory_is_wanted(rt: HostRuntime) {
     let bytes = bytes_of(&rt, rt.alloc(), "ADDED");

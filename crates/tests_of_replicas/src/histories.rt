@@ -1,5 +1,4 @@
-//! What operations show in the orders in which sites take them, and in others, with the report
-//! written out by hand.
+//! What operations show in the orders in which sites take them, and in other orders, with reports written by hand.
 use crate::model_lines::{Names, assert_lines};
 use reference_model::Total;
 

@@ -1,4 +1,4 @@
-//! What the lines of a story give at two sites of the reference model.
+//! The results of a story's lines at two sites of the reference model.
 use crate::parse::{
     Words, assert_given, assert_stories, interface, label, line_and_wanted, list, member, name,
     number, penalty, place, push, queue, queue_number, refused_text, row_text, says, site, string,
@@ -15,7 +15,7 @@ use status_report::StatusRequest;
 use std::alloc::Global;
 use std::process::Abort;
 
-// What stories tell by name: operations, and the texts of reports.
+// The named values of stories: operations, and the texts of reports.
 #[derive(Clone, Copy)]
 pub(crate) struct Names {
     pub(crate) operations: &'static [(&'static str, &'static str)],
@@ -128,7 +128,7 @@ fn outcome_text(rt: &impl Abort, alloc: Global, outcome: &Outcome) -> String {
     string(rt, alloc, text)
 }
 
-// Keeps the frame that came of a step, if one did.
+// Keeps the frame of a step, if it made one.
 fn keep_frame(rt: &impl Abort, world: &mut World, outcome: Outcome) {
     match outcome {
         Outcome::Framed { frame, .. } => world.frames.push(frame).expect(rt, "memory"),
@@ -136,7 +136,7 @@ fn keep_frame(rt: &impl Abort, world: &mut World, outcome: Outcome) {
     }
 }
 
-// Lets a site do a step, and gives what comes of it.
+// Lets a site do a step, and returns its outcome.
 fn do_step(rt: &impl Abort, alloc: Global, world: &mut World, at: &str, step: &Step) -> String {
     let site = site(rt, at);
     let after = after_step(alloc, site, &world.list, site_at(rt, world, at), step);
@@ -198,7 +198,7 @@ fn stamp_text(rt: &impl Abort, alloc: Global, known: &[Operation]) -> String {
     }
 }
 
-// A filter; none is told as `-`.
+// Parses a filter; `-` is none.
 fn filter(rt: &impl Abort, word: &str) -> Option<Text80> {
     if word == "-" {
         None
@@ -207,7 +207,7 @@ fn filter(rt: &impl Abort, word: &str) -> Option<Text80> {
     }
 }
 
-// A report, told with a bar between lines.
+// Parses a report, written with a bar between lines.
 fn report(rt: &impl Abort, alloc: Global, told: &str) -> String {
     let mut report = String::new(alloc);
     for line in told.split('|') {
@@ -245,7 +245,7 @@ fn report_text(
     named
 }
 
-// What a line gives at a site: what is seen of what it knows, or what comes of a step.
+// The result of a line at a site: what is seen of its knowledge, or the outcome of a step.
 fn given_at(
     rt: &impl Abort,
     alloc: Global,
@@ -270,8 +270,8 @@ fn given_at(
     }
 }
 
-// What a line gives. `knows`, `buffer` and `number` set what site 0 knows, what of that it has put in no frame yet and how many frames it
-// has made; `frame` makes a frame. Other lines are of a site.
+// The result of a line. `knows`, `buffer` and `number` set what site 0 knows, its buffer and how many frames it has made; `frame`
+// makes a frame. Other lines are of a site.
 fn given(
     rt: &impl Abort,
     alloc: Global,
@@ -294,7 +294,7 @@ fn given(
     String::new(alloc)
 }
 
-// Asserts that each of these lines gives what it must.
+// Asserts the result of each of these lines.
 fn assert_each(rt: &impl Abort, alloc: Global, world: &mut World, names: &Names, lines: &str) {
     for line in lines.split('\n') {
         if says(line) {
@@ -314,7 +314,7 @@ fn assert_story(rt: &impl Abort, alloc: Global, names: &Names, story: &str) {
     drop(world);
 }
 
-// Asserts stories. Each begins at a line `queues`, with two new sites of the queues that stand behind it.
+// Asserts stories. Each begins at a line `queues`, with two new sites of the queues that follow it.
 pub(crate) fn assert_lines(rt: &impl Abort, alloc: Global, names: &Names, lines: &str) {
     assert_stories(rt, lines, "\nqueues ");
     for story in lines.split("\nqueues ").skip(1) {

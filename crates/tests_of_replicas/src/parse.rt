@@ -1,4 +1,4 @@
-//! Reads values from words, and lines from text: a line says what happens, and what that must give.
+//! Parses values from words, and lines from text: a line has an action and its expected result.
 use dots::{Dot, Interface, Label, Member, Penalty, QueueName, SiteId, Text80};
 use operations::Row;
 use replica::QueueList;
@@ -23,7 +23,7 @@ pub(crate) fn word<'a>(rt: &impl Abort, words: &mut Words<'a>) -> &'a str {
     words.next().expect(rt, "a word")
 }
 
-// Both parts of a word, before and behind a mark.
+// Both parts of a word, before and after a mark.
 pub(crate) fn parts<'a>(rt: &impl Abort, word: &'a str, mark: char) -> (&'a str, &'a str) {
     word.split_once(mark).expect(rt, word)
 }
@@ -140,22 +140,22 @@ pub(crate) fn row_text(rt: &impl Abort, alloc: Global, row: Option<Row<'_>>) -> 
     }
 }
 
-// Whether a line says something: it isn't empty, and doesn't begin with `#`.
+// Whether a line has content: it isn't empty, and doesn't begin with `#`.
 pub(crate) fn says(line: &str) -> bool {
     !line.is_empty() && !line.starts_with('#')
 }
 
-// What a line says, and what that must give, which stands after a colon and a blank; nothing where there is none.
+// The action of a line, and its expected result, after a colon and a blank; no bytes if there is none.
 pub(crate) fn line_and_wanted(line: &str) -> (&str, &str) {
     line.split_once(": ").unwrap_or((line, ""))
 }
 
-// Asserts what a line gives.
+// Asserts the result of a line.
 pub(crate) fn assert_given(rt: &impl Abort, told: &str, given: &str, wanted: &str) {
     assert!(rt; given == wanted, "{told} gives {given}");
 }
 
-// Asserts that there is a story, which begins at a line of this first word, and that the lines before the first say nothing.
+// Asserts that there is a story, which begins at a line of this first word, and that the lines before it have no content.
 pub(crate) fn assert_stories(rt: &impl Abort, lines: &str, first_word: &str) {
     let (before, _) = lines.split_once(first_word).expect(rt, "a story");
     for line in before.split('\n') {

@@ -1,4 +1,4 @@
-//! What lines give at a site: what comes of commands and of frames from elsewhere, and what is seen then.
+//! The results of lines at a site: the outcomes of commands and of takes, and what is seen after them.
 use crate::parse::{
     Words, assert_given, assert_stories, interface, label, line_and_wanted, list, member, name,
     parts, penalty, push, queue, queue_number, refused_text, row_text, says, site, string, text,
@@ -50,7 +50,7 @@ fn command(rt: &impl Abort, kind: &str, words: &mut Words<'_>) -> Command {
     }
 }
 
-// What a command gives.
+// The result of a command.
 fn answer(rt: &impl Abort, alloc: Global, replica: &mut Replica, command: Command) -> String {
     match replica.command(&command) {
         Ok(()) => string(rt, alloc, "done"),
@@ -62,7 +62,7 @@ fn copy_of(rt: &impl Abort, frame: &Frame) -> Frame {
     frame.copy().expect(rt, "memory")
 }
 
-// What a frame gives that comes back, as it was.
+// The result of a refused frame, which is returned as it was.
 fn refused(rt: &impl Abort, alloc: Global, back: (TakeFault, Frame), copy: &Frame) -> String {
     let (fault, back) = back;
     assert!(rt; back.same(copy), "it has changed");
@@ -70,7 +70,7 @@ fn refused(rt: &impl Abort, alloc: Global, back: (TakeFault, Frame), copy: &Fram
     refused_text(rt, alloc, &fault)
 }
 
-// What a frame gives. One that is refused comes back as it was.
+// The result of a frame. A refused frame is returned as it was.
 fn take(rt: &impl Abort, alloc: Global, replica: &mut Replica, frame: Frame) -> String {
     let copy = copy_of(rt, &frame);
     let given = match replica.take(frame) {
@@ -103,7 +103,7 @@ fn last_text(rt: &impl Abort, alloc: Global, replica: &Replica) -> String {
     format!(in alloc; "{count} {time} {number}").expect(rt, "memory")
 }
 
-// What a line gives at a site.
+// The result of a line at a site.
 fn given(rt: &impl Abort, alloc: Global, replica: &mut Replica, words: &mut Words<'_>) -> String {
     let kind = word(rt, words);
     match kind {
@@ -115,7 +115,7 @@ fn given(rt: &impl Abort, alloc: Global, replica: &mut Replica, words: &mut Word
     }
 }
 
-// Asserts that each of these lines gives what it must.
+// Asserts the result of each of these lines.
 fn assert_each(rt: &impl Abort, alloc: Global, replica: &mut Replica, lines: &str) {
     for line in lines.split('\n') {
         if says(line) {
@@ -137,7 +137,7 @@ fn assert_story(rt: &impl Abort, alloc: Global, story: &str) {
     drop(replica);
 }
 
-// Asserts stories. Each begins at a line `site`, with a new site of the number and of the queues that stand behind it.
+// Asserts stories. Each begins at a line `site`, with a new site of the number and of the queues that follow it.
 pub(crate) fn assert_lines(rt: &impl Abort, alloc: Global, lines: &str) {
     assert_stories(rt, lines, "\nsite ");
     for story in lines.split("\nsite ").skip(1) {

@@ -1,5 +1,5 @@
-//! Replicas: that a new one knows nothing, and which frames from elsewhere a site takes or refuses: one that is refused comes back, and
-//! changes nothing. What sites show that take one another's frames is shown by the cases of `cases/two_sites`.
+//! Replicas: a new one knows nothing; which frames from elsewhere a site takes or refuses; a refused frame is returned and changes
+//! nothing. The cases of `cases/two_sites` show sites that take one another's frames.
 use crate::parse::{list, member, name, site};
 use crate::replica_lines::assert_lines;
 use replica::Replica;

@@ -1,4 +1,4 @@
-//! Clients over TCP: what they send and what they must read. Each that finds something else stops the test.
+//! Clients over TCP: what they send and what they must read. A client that reads anything else fails the test.
 use crate::replies;
 use crate::serving::{HERE, SHORT};
 use std::io::{Read, Write};
@@ -9,7 +9,7 @@ use std::thread;
 use std::thread::{Threads, join, yield_now};
 use std::time::{Clock, Duration};
 
-// What is sent, and what must be read then.
+// The bytes to send, and those that must be read after them.
 #[derive(Clone, Copy)]
 struct Exchange {
     sent: &'static str,
@@ -56,17 +56,17 @@ const LOGOFF: Exchange = Exchange {
     read: replies::GOODBYE,
 };
 
-// How often a client tries to connect.
+// The most tries of a client to connect.
 const TRIES: u32 = 1_000_000;
 
 // How long a client waits for a reply or to write, in seconds.
 const PATIENCE: u64 = 20;
 
-// How often a client asks that asks often: with the last cut and the whole these are more than a thousand steps, however few rings are heard, and with a
-// cut for each of them no more than two thousand.
+// The number of asks of a client that asks often: with the last cut and the whole these are more than a thousand steps, however few
+// rings are received, and with a cut for each of them at most two thousand.
 const ASKS: u32 = 999;
 
-// A stream to this port, which is tried until the server listens.
+// A stream to this port; connects again until the server listens.
 fn connected<R: Net<Listener = TcpListener, Stream = TcpStream> + Abort>(
     rt: &R,
     port: u16,
@@ -87,7 +87,7 @@ fn send(rt: &impl Abort, stream: &TcpStream, bytes: &[u8]) {
     assert!(rt; writer.write_all(bytes).is_ok());
 }
 
-// Reads just these bytes.
+// Reads exactly these bytes.
 fn read(rt: &impl Abort, stream: &TcpStream, bytes: &[u8]) {
     let mut piece = [0u8; 1024];
     let count = bytes.len();
@@ -112,7 +112,7 @@ fn assert_ends(rt: &impl Abort, stream: &TcpStream) {
     assert!(rt; matches!(reader.read(&mut piece), Ok(0)));
 }
 
-// The stream ends behind these exchanges.
+// The stream ends after these exchanges.
 fn talk_to_the_end(rt: &impl Abort, stream: &TcpStream, exchanges: &[Exchange]) {
     talk(rt, stream, exchanges);
     assert_ends(rt, stream);
@@ -127,7 +127,7 @@ fn ask_often(rt: &impl Abort, stream: &TcpStream) {
     talk_to_the_end(rt, stream, &[LOGOFF]);
 }
 
-// A session that is silent behind its login for a long time, and then logs off.
+// A session that is silent after its login for a long time, and then logs off.
 fn be_silent(rt: &(impl Abort + Clock), stream: &TcpStream) {
     talk(rt, stream, &[GREETING, LOGIN]);
     thread::sleep(rt, Duration::from_millis(3 * SHORT));
@@ -139,11 +139,11 @@ fn be_silent(rt: &(impl Abort + Clock), stream: &TcpStream) {
 pub enum Client {
     /// It asks for 999 reports.
     AskOften,
-    /// It sends a message that is no login, and is given up in the midst of one.
+    /// It sends a message that is no login, and disconnects in the middle of another.
     NotLoggedIn,
-    /// It is given up behind its login.
+    /// It disconnects after its login.
     LoggedIn,
-    /// It is silent behind its login for a long time, and then logs off.
+    /// It is silent after its login for a long time, and then logs off.
     Silent,
 }
 
@@ -178,7 +178,7 @@ fn hold_session<R: Net<Listener = TcpListener, Stream = TcpStream> + Abort>(
     drop(stream);
 }
 
-// A session with each of two sites, of which the first is told of a member.
+// A session with each of two sites. The first gets an add.
 fn tell_one_of_two<R: Net<Listener = TcpListener, Stream = TcpStream> + Abort>(rt: &R, port: u16) {
     hold_session(rt, port, &[GREETING, LOGIN, ADD, LOGOFF]);
     hold_session(rt, port.saturating_add(1), &[GREETING, LOGIN, LOGOFF]);
@@ -190,10 +190,10 @@ const STATUS: Exchange = Exchange {
     read: replies::REPORT,
 };
 
-// How often a client looks for a flag: a thousand times each of these turns.
+// How often a client reads a flag: this number of turns, a thousand times each.
 const TURNS: u32 = 1_000_000;
 
-// Whether a flag is seen within 1,000,000,000 looks.
+// Whether a flag is set within 1,000,000,000 reads.
 fn sees(flag: &AtomicBool) -> bool {
     for _ in 0..TURNS {
         for _ in 0..1_000u32 {
@@ -206,8 +206,8 @@ fn sees(flag: &AtomicBool) -> bool {
     false
 }
 
-// Logs in, and looks for the end of the other client, whose member it must see then. It logs off in either case, so that the
-// server ends. Whether it saw that end.
+// Logs in, and waits for the end of the other client, whose member it must see then. Logs off in either case, so that the server
+// ends. Returns whether it saw that end.
 fn see<R: Net<Listener = TcpListener, Stream = TcpStream> + Abort>(
     rt: &R,
     port: u16,
@@ -238,7 +238,7 @@ fn add<R: Net<Listener = TcpListener, Stream = TcpStream> + Abort>(
     is_done.store(true, Ordering::SeqCst);
 }
 
-// Two sessions at once, of which the first must see the end of the second.
+// Two concurrent sessions, of which the first must see the end of the second.
 fn meet<R: Net<Listener = TcpListener, Stream = TcpStream> + Abort + Threads + Sync>(
     rt: &R,
     port: u16,
@@ -259,7 +259,7 @@ fn meet<R: Net<Listener = TcpListener, Stream = TcpStream> + Abort + Threads + S
 pub enum Clients {
     /// One session.
     One(Client),
-    /// A session with each of two sites, of which the first is told of SIP/1.
+    /// A session with each of two sites. The first gets an add of SIP/1.
     OfTwoSites,
     /// Two sessions, of which the first sees what the second has added.
     AtOnce,

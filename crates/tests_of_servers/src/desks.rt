@@ -17,7 +17,7 @@ use std::sync::Wait;
 use std::sync::ledger::Blank;
 use std::time::Clock;
 
-// The journal of site 0 that knows nothing, in which `limit` steps may stand.
+// The journal of new site 0, which holds at most `limit` steps.
 fn journal(rt: &impl Abort, alloc: Global, limit: u32) -> Journaled
     ensures begun { result.count ≡ 0 }
     ensures site { IsOfSite result.base.site result.base.names result }
@@ -33,7 +33,7 @@ fn status(alloc: Global) -> Ask {
     Ask::Status(whole_status(alloc))
 }
 
-// Asks a number of times, and is answered by a report each time.
+// Asks a number of times, and gets a report each time.
 fn assert_answers<L: SiteLedger, R: Abort + Wait>(
     rt: &R,
     alloc: Global,
@@ -59,7 +59,8 @@ fn closed<L: SiteLedger>(
     close(desk, passes).ok().expect(rt, "a journal")
 }
 
-// Asks a number of times, and then drops the steps if they keep more than a number of bytes. Whether they were dropped so, and the journal.
+// Asks a number of times, and then drops the steps if their payload is more than a number of bytes. Returns whether they were
+// dropped, and the journal.
 fn asked<L: SiteLedger, R: Abort + Wait>(
     rt: &R,
     alloc: Global,
@@ -87,8 +88,8 @@ fn asked<L: SiteLedger, R: Abort + Wait>(
     (dropped, closed(rt, alloc, desk, pass))
 }
 
-// Asks a number of times at a site in whose journal `limit` steps may stand, and asserts whether steps that keep more than a number of
-// bytes are dropped then, and how many were dropped in all.
+// Asks a number of times at a site whose journal holds at most `limit` steps. Asserts whether steps with a payload of more than a
+// number of bytes are dropped then, and how many were dropped in all.
 fn assert_asked<R: Abort + Wait>(
     rt: &R,
     alloc: Global,
@@ -140,7 +141,7 @@ impl<R> Desk<R> for ShortDesk {
     }
 }
 
-// Asks twice at a desk that rings. Whether that is heard, which it is once at most.
+// Asks twice at a desk that rings. Returns whether a ring was received, which is once at most.
 fn hears(rt: &(impl Abort + Wait + Clock), alloc: Global, refusals: u32, deeds: u32) -> bool {
     let bell = SiteBell::new();
     let mut desk = RingingDesk::new(ShortDesk { refusals, deeds }, &bell);

@@ -1,5 +1,5 @@
-//! How another crate calls replicas and a world: of two sites the first adds a member, and the second takes what it has done. It takes
-//! nothing from the other files, so that it can be read alone.
+//! How another crate calls replicas and a world: of two sites the first adds a member, and the second takes its frame. The file
+//! uses no other, so that it can be read alone.
 use delta::Frame;
 use dots::{Interface, Label, Penalty, QueueName, SiteId, Text80};
 use replica::{Command, QueueList, Replica};
@@ -34,7 +34,7 @@ fn add(rt: &impl Abort) -> Command {
     }
 }
 
-// What a site has done once it has added SIP/1.
+// The frame of a site that has added SIP/1.
 fn added(rt: &impl Abort, site: &mut Replica) -> Frame {
     site.command(&add(rt)).expect(rt, "it is added");
     let cut = site.cut().expect(rt, "a number is left");

@@ -1,5 +1,5 @@
-//! Feeds of messages: faults that stay, how long a feed takes, and want of memory. What the messages of streams say is shown by the cases
-//! of `cases/sessions`.
+//! Feeds of messages: faults that stay, how long a feed takes, and out of memory. The cases of `cases/sessions` show how streams
+//! become messages.
 use ami_text::{Feed, FeedFault, Message};
 use std::alloc::Global;
 use std::process::Abort;
@@ -18,7 +18,7 @@ fn lines(rt: &impl Abort, alloc: Global, number: usize) -> Vec<u8> {
     bytes
 }
 
-// Asserts that the next answer of a feed is this fault.
+// Asserts that the next result of a feed is this fault.
 fn assert_fault(rt: &impl Abort, feed: &mut Feed, want: FeedFault) {
     match feed.next_message() {
         Ok(_) => rt.panic("no fault"),
@@ -26,7 +26,7 @@ fn assert_fault(rt: &impl Abort, feed: &mut Feed, want: FeedFault) {
     }
 }
 
-// Asserts that bytes give a fault, and give it again whatever is fed behind them.
+// Asserts that bytes give a fault, and give it again whatever is fed after them.
 fn assert_fault_stays(rt: &impl Abort, alloc: Global, bytes: &[u8], want: FeedFault) {
     let mut feed = Feed::new(alloc);
     feed_all(rt, &mut feed, bytes);
@@ -79,7 +79,7 @@ fn bytes_are_looked_at_once(rt: HostRuntime) {
     drop(feed);
 }
 
-// Asserts what a message has under a name; nothing is wanted where `value` is empty.
+// Asserts the value of a name in a message; if `value` is empty, it has none.
 fn assert_value(rt: &impl Abort, message: &Message, name: &[u8], value: &[u8]) {
     match message.get(name) {
         Some(got) => assert!(rt; !got.is_empty() && *got == *value),
@@ -95,7 +95,7 @@ const PIECES: &[&[u8]] = &[
     b"\nx\n\ny: z\n\n",
 ];
 
-// Feeds the pieces, each once more where memory is refused. Sets `is_refused` then.
+// Feeds the pieces, and retries each piece whose memory is refused. Then `is_refused` is set.
 fn feed_pieces(rt: &impl Abort, feed: &mut Feed, is_refused: &mut bool) {
     for piece in PIECES {
         if feed.feed(piece).is_err() {
@@ -105,10 +105,10 @@ fn feed_pieces(rt: &impl Abort, feed: &mut Feed, is_refused: &mut bool) {
     }
 }
 
-// What each message has under a name; nothing where the value is empty.
+// The value of a name in each message; no bytes if there is none.
 const VALUES: &[(&str, &str)] = &[("action", "QueueStatus"), ("x", ""), ("y", "z")];
 
-// The next message, which is asked for once more where memory is refused. Sets `is_refused` then.
+// The next message. Retries if memory is refused, and then sets `is_refused`.
 fn next_message(rt: &impl Abort, feed: &mut Feed, is_refused: &mut bool) -> Message {
     let next = match feed.next_message() {
         Err(FeedFault::Memory) => {
@@ -120,7 +120,7 @@ fn next_message(rt: &impl Abort, feed: &mut Feed, is_refused: &mut bool) -> Mess
     next.expect(rt, "no fault").expect(rt, "a message")
 }
 
-// Asserts what each message has under a name. Sets `is_refused` where memory is refused.
+// Asserts the value of a name in each message. Sets `is_refused` if memory is refused.
 fn assert_values(rt: &impl Abort, feed: &mut Feed, is_refused: &mut bool) {
     for (name, value) in VALUES {
         let message = next_message(rt, feed, is_refused);
@@ -129,8 +129,8 @@ fn assert_values(rt: &impl Abort, feed: &mut Feed, is_refused: &mut bool) {
     }
 }
 
-// The messages are the same, whether they come at once or memory is refused and they are asked for again. tools/memory_tests.py
-// runs this test with each allocation refused in turn.
+// The messages are the same, whether memory is ample or it is refused and they are requested again. tools/memory_tests.py runs
+// this test with each allocation refused in turn.
 #[test]
 fn a_feed_gives_the_same_messages_when_memory_comes_later(rt: HostRuntime) {
     assert!(rt; println!(rt; "ready").is_ok());

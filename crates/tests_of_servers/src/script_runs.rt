@@ -1,4 +1,4 @@
-//! Scripts over devices that fail or don't end, with what each run answers and what it has written.
+//! Scripts over devices that fail or don't end: what each run returns and what it has written.
 ghost use Rattle.std.specs.Prelude.{◌≡◌, false};
 
 use crate::shared::list;
@@ -8,7 +8,7 @@ use scripts::{ScriptFault, SiteCount, run_script};
 use std::alloc::Global;
 use std::process::Abort;
 
-// A script: a comment of `length` bytes, and what stands behind it.
+// A script: a comment of `length` bytes, and what follows it.
 fn script(rt: &impl Abort, alloc: Global, length: usize, behind: &str) -> Vec<u8> {
     let mut script = vec![in alloc; b'#'; length].expect(rt, "memory");
     script
@@ -60,7 +60,7 @@ fn assert_run(
     drop(writer);
 }
 
-// Runs a script of a comment of `length` bytes, and what stands behind it, which writes nothing.
+// Runs a script of a comment of `length` bytes, and what follows it, which writes nothing.
 fn assert_read(
     rt: &impl Abort,
     alloc: Global,
@@ -102,7 +102,8 @@ const TWO: &[u8] = b"0 dance\n0 dance\n";
 #[test]
 fn a_script_is_read_to_its_end_or_ends_with_its_fault(rt: HostRuntime) {
     let alloc = rt.alloc();
-    // A script is read in pieces of 1,024 bytes, 1,000,000 times at most, and the last read tells the end.
+    // A script is read in pieces of 1,024 bytes, at most 1,000,000 times; the last read may return the
+    // end.
     assert_read(&rt, alloc, 1_000, "", 1_000, 1, Err(Read));
     assert_read(&rt, alloc, 1_000, "", 1_000, 2, Ok(0));
     assert_read(&rt, alloc, 1_024, "", 2_000, 2, Ok(0));

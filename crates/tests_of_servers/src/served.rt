@@ -22,7 +22,7 @@ const ADD_AND_STATUS: &str =
 const SESSION: &str = "Action: Login\r\nUsername: admin\r\nSecret: s3\r\n\r\n\
 action:QueueAdd\nqueue:sales\nINTERFACE:  SIP/1\n\nAction: QueueStatus\n\nAction: Logoff\r\n\r\n";
 
-// What is written then.
+// The bytes written for it.
 const TEXTS: [&str; 5] = [GREETING, ACCEPTED, ADDED, REPORT, GOODBYE];
 
 fn login(rt: &impl Abort) -> Session {
@@ -33,7 +33,7 @@ fn desk(rt: &impl Abort, alloc: Global) -> ReplicaDesk {
     ReplicaDesk::new(alloc, replica(rt, alloc, 0, &["sales"]))
 }
 
-// Whether these texts, one behind the other, begin with the bytes.
+// Whether these texts, one after the other, begin with the bytes.
 fn is_front(given: &[u8], texts: &[&str]) -> bool {
     let mut rest = given;
     for text in texts {
@@ -45,7 +45,7 @@ fn is_front(given: &[u8], texts: &[&str]) -> bool {
     rest.is_empty()
 }
 
-// A desk that gives a number of answers, and then none.
+// A desk that answers a given number of times, and then fails.
 #[derive(Drop)]
 struct TiredDesk {
     desk: ReplicaDesk,
@@ -66,7 +66,7 @@ impl Desk<()> for TiredDesk {
     }
 }
 
-// Serves a session, of whose end nothing is said.
+// Serves a session; its end is not asserted.
 fn serve_session<S: Source, W: Sink, D: Desk<()>>(
     alloc: Global,
     reader: &mut S,
@@ -80,9 +80,9 @@ fn serve_session<S: Source, W: Sink, D: Desk<()>>(
     serve(&(), alloc, reader, writer, session, desk, &mut NoWatch)
 }
 
-// How a session on this stream ends. Its reader gives a byte a read and fails after a number of reads. Its writer takes a number of
-// bytes a write and fails after a number of writes. Its desk gives a number of answers. Returns too how many bytes were written: they
-// are a prefix of the texts.
+// How a session on this stream ends. Its reader gives one byte at a read and fails after a number of reads. Its writer takes a
+// number of bytes at a write and fails after a number of writes. Its desk answers a number of times. Also returns how many bytes
+// were written: they are a prefix of the texts.
 fn end_of_failing(
     rt: &impl Abort,
     alloc: Global,
@@ -111,8 +111,8 @@ const NEVER: u64 = 1_000;
 
 const WRITE: Result<(), ServeFault> = Err(ServeFault::Write);
 
-// Asserts how a session ends whose devices fail after a number of reads or writes, of a limited number of bytes each, and whose desk
-// gives a number of answers. Asserts too the least and the most bytes that it writes.
+// Asserts how a session ends whose devices fail after a number of reads or writes, of a limited number of bytes each, and whose
+// desk answers a number of times. Also asserts the least and the most bytes that it writes.
 fn assert_end(
     rt: &impl Abort,
     alloc: Global,
@@ -129,7 +129,7 @@ fn assert_end(
     assert!(rt; end == wanted && least <= written && written <= greatest);
 }
 
-// Asserts how a session ends whose reader fails behind a number of reads, from the first to below the second.
+// Asserts how a session ends whose reader fails after a number of reads, from the first to below the second.
 fn assert_reads(
     rt: &impl Abort,
     alloc: Global,
@@ -159,7 +159,7 @@ fn assert_writes(
     }
 }
 
-// Asserts that a session ends after a number of answers, and how many bytes it has written then.
+// Asserts that a session ends after a number of answers, and how many bytes it has written by then.
 fn assert_down(rt: &impl Abort, alloc: Global, answers: u32, written: usize) {
     let wanted = Err(ServeFault::DeskDown);
     assert_end(
@@ -167,7 +167,7 @@ fn assert_down(rt: &impl Abort, alloc: Global, answers: u32, written: usize) {
     );
 }
 
-// The greeting has 32 bytes with its end, and the replies behind it 55, 56, 366 and 56.
+// The greeting has 32 bytes with its end, and the replies after it 55, 56, 366 and 56.
 #[test]
 fn a_session_ends_with_the_fault_of_its_devices_or_its_desk(rt: HostRuntime) {
     let alloc = rt.alloc();
@@ -175,7 +175,7 @@ fn a_session_ends_with_the_fault_of_its_devices_or_its_desk(rt: HostRuntime) {
     assert_reads(&rt, alloc, 46, 93, Err(ServeFault::Read), 87);
     assert_reads(&rt, alloc, 93, 114, Err(ServeFault::Read), 143);
     assert_reads(&rt, alloc, 114, 132, Err(ServeFault::Read), 509);
-    // Nothing is read behind the logoff.
+    // Nothing is read after the logoff.
     assert_reads(&rt, alloc, 132, 133, Ok(()), 565);
     assert_writes(&rt, alloc, 700, 0, 1, WRITE, 0, 0);
     assert_writes(&rt, alloc, 700, 1, 2, WRITE, 30, 30);
@@ -194,7 +194,7 @@ fn a_session_ends_with_the_fault_of_its_devices_or_its_desk(rt: HostRuntime) {
 
 #[test]
 fn a_session_reads_a_million_times_at_most(rt: HostRuntime) {
-    // The last read of 1,000,000 may tell the end.
+    // The last read of 1,000,000 may return the end.
     for (lines, end) in [(999_999, Ok(())), (1_000_000, Err(ServeFault::Turns))] {
         let stream = vec![in rt.alloc(); b'\n'; lines].expect(&rt, "memory");
         let ended = end_of_failing(&rt, rt.alloc(), &stream, u64::MAX, (700, u64::MAX), 0);
@@ -203,7 +203,7 @@ fn a_session_reads_a_million_times_at_most(rt: HostRuntime) {
     }
 }
 
-// A sink that takes all, and keeps how many bytes that is.
+// A sink that takes all bytes, and counts them.
 #[derive(Drop)]
 struct CountingSink<'a> {
     taken: &'a Cell<usize>,
@@ -220,7 +220,7 @@ impl<'a> Sink for CountingSink<'a> {
     }
 }
 
-// How many bytes are due once `read` of the session's were read: the greeting, and a reply for each message that has come.
+// The number of bytes due after `read` bytes of the session: the greeting, and a reply for each whole message.
 fn due(read: usize) -> usize {
     let mut written = 0;
     for (from, bytes) in [(0, 32), (46, 87), (93, 143), (114, 509)] {
@@ -231,7 +231,7 @@ fn due(read: usize) -> usize {
     written
 }
 
-// A source that sees how many bytes a sink has taken, and keeps whether these were at each read as many as were due.
+// A source that reads how many bytes a sink has taken, and records whether, at each read, these were the bytes due.
 #[derive(Drop)]
 struct SeeingSource<'a> {
     source: MemorySource<'a>,
@@ -312,7 +312,7 @@ fn a_session_has_more_messages_than_reads(rt: HostRuntime) {
 const WANTING: &str = "Response: Error\r\nMessage: Out of memory\r\n\r\n";
 
 // How a session with an add and a status ended that ran out of memory at most once, as a word. It wrote the greeting and whole
-// replies; or the desk ran out of memory, the reply says so, and the session went on.
+// replies; or the desk ran out of memory, the reply reports it, and the session went on.
 fn end_of(rt: &impl Abort, served: Result<(), ServeFault>, written: &[u8]) -> &'static str {
     let whole = [GREETING, ADDED, REPORT];
     if let Err(fault) = served {
@@ -332,8 +332,8 @@ fn end_of(rt: &impl Abort, served: Result<(), ServeFault>, written: &[u8]) -> &'
     "reply"
 }
 
-// Serves a session over a slice, and answers how it ended, what is left of the slice, and what was written behind what a vector
-// held. Its contract is what `serve` tells of a reader and a writer of std's, and that the desk is of the same site.
+// Serves a session over a slice. Returns how it ended, what is left of the slice, and the bytes that it appended to the vector. Its
+// contract states what `serve` promises for a reader and a writer of std, and that the desk is of the same site.
 fn served_over_a_slice<'a>(
     alloc: Global,
     bytes: &'a [u8],

@@ -14,20 +14,20 @@ use std::sync::{Arc, Wait};
 use std::thread::Threads;
 use std::time::{Clock, Duration};
 
-/// Where sites listen, if a test doesn't say otherwise.
+/// The address of the sites, unless a test sets another.
 pub const HERE: Ipv4Addr = Ipv4Addr::LOCALHOST;
 
-/// In milliseconds: what a client may take that may not take long.
+/// A short time limit for a client, in milliseconds.
 pub const SHORT: u64 = 300;
 
 /// How long clients may take.
 #[derive(Clone, Copy)]
 pub enum Limit {
-    /// As long as a server gives them by itself.
+    /// The server's default limits.
     Usual,
-    /// A short time to log in; they may be silent without end.
+    /// A short time to log in; no limit of silence.
     Login,
-    /// A short time in which they are silent.
+    /// A short limit of silence.
     Idle,
 }
 
@@ -56,7 +56,7 @@ pub fn are_free<R: Net<Listener = TcpListener, Stream = TcpStream>>(
     true
 }
 
-/// The first of a few ports at which as many sites as are wanted could just be bound.
+/// The first of a few ports at which the given number of sites could be bound just now.
 pub fn free_port<R: Net<Listener = TcpListener, Stream = TcpStream>>(
     rt: &R,
     first: u16,
@@ -99,13 +99,14 @@ pub fn settings(
     }
 }
 
-// A log of events that nobody reads.
+// A log of events that no test reads.
 fn events(rt: &impl Abort, alloc: Global) -> Arc<EventLog, Global> {
     let events = EventLog::new(alloc).expect(rt, "memory");
     Arc::new(alloc, events).expect(rt, "memory")
 }
 
-/// Serves a number of sessions of each site, over a log that fails behind a number of writes. How that ends, and what the log has taken.
+/// Serves a number of sessions of each site, over a log that fails after a number of writes. Returns how that ends, and what the
+/// log has taken.
 pub fn served<R>(
     rt: &R,
     alloc: Global,

@@ -1,4 +1,4 @@
-//! What a session replies to each answer, also to answers that no site gives to what was asked.
+//! A session's reply to each answer, also to answers that no site gives to the ask.
 use crate::shared::assert_text;
 use ami_session::{Act, Pending, Session};
 use ami_text::{Feed, Message};
@@ -33,7 +33,7 @@ fn message(rt: &impl Abort, alloc: Global, lines: &str) -> Message {
     found.expect(rt, "a message")
 }
 
-// What a trusted session keeps of a message of these lines until the site has answered.
+// The pending message of a trusted session for these lines, until the site has answered.
 fn pending(rt: &impl Abort, alloc: Global, lines: &str) -> Pending {
     let message = message(rt, alloc, lines);
     let mut session = Session::trusted();
@@ -49,7 +49,7 @@ fn pending(rt: &impl Abort, alloc: Global, lines: &str) -> Pending {
     }
 }
 
-// Asserts what a trusted session replies to a message of these lines after an answer.
+// Asserts the reply of a trusted session to a message of these lines after an answer.
 fn assert_reply(rt: &impl Abort, alloc: Global, lines: &str, answer: Answer, wanted: &[&str]) {
     let pending = pending(rt, alloc, lines);
     let given = pending.answer(alloc, answer).ok().expect(rt, "a reply");
@@ -114,13 +114,13 @@ fn assert_reported(rt: &impl Abort, alloc: Global, lines: &str) {
 fn a_report_is_replied_as_it_is_and_done_as_a_success(rt: HostRuntime) {
     let alloc = rt.alloc();
     assert_reported(&rt, alloc, STATUS);
-    // No site answers a command so.
+    // No site gives this answer to a command.
     assert_reported(&rt, alloc, ADD);
     assert_reported(&rt, alloc, REMOVE);
     assert_reported(&rt, alloc, PAUSE);
     assert_reported(&rt, alloc, PENALTY);
     assert_reported(&rt, alloc, RING);
-    // No site answers a status so.
+    // No site gives this answer to a status.
     const DONE: &str = "Response: Success\r\nActionID: 4\r\nMessage: \r\n\r\n";
     assert_reply(&rt, alloc, STATUS, Answer::Done, &[DONE]);
 }

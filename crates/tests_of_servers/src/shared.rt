@@ -1,11 +1,11 @@
-//! What these tests make and assert alike.
+//! What these tests share.
 use dots::{Bytes, QueueName, SiteId, Text80};
 use replica::{QueueList, Replica};
 use status_report::StatusRequest;
 use std::alloc::Global;
 use std::process::Abort;
 
-// Asserts that a value is the wanted one.
+// Asserts that a value is the expected one.
 pub(crate) fn assert_same<T: PartialEq>(rt: &impl Abort, value: &T, want: &T) {
     assert!(rt; *value == *want);
 }
@@ -57,7 +57,7 @@ pub(crate) fn whole_status(alloc: Global) -> StatusRequest {
     }
 }
 
-// What stands behind these texts, where bytes begin with them, one behind the other.
+// The rest of the bytes, if they begin with these texts in order.
 fn behind<'a>(given: &'a [u8], texts: &[&str]) -> Option<&'a [u8]> {
     let mut rest = given;
     for text in texts {
@@ -66,12 +66,12 @@ fn behind<'a>(given: &'a [u8], texts: &[&str]) -> Option<&'a [u8]> {
     Some(rest)
 }
 
-// Whether bytes are these texts, one behind the other.
+// Whether bytes are these texts, one after the other.
 pub(crate) fn is_text(given: &[u8], texts: &[&str]) -> bool {
     matches!(behind(given, texts), Some([]))
 }
 
-// Asserts that bytes are these texts, one behind the other.
+// Asserts that bytes are these texts, one after the other.
 pub(crate) fn assert_text(rt: &impl Abort, given: &[u8], texts: &[&str]) {
     assert!(rt; is_text(given, texts));
 }
@@ -83,7 +83,7 @@ const CLOSING: &str = "Event: QueueStatusComplete\r\nEventList: Complete\r\nList
 
 const NUMBERS: &[&str] = &["0", "1", "2", "3", "4", "5", "6"];
 
-// Asserts that a report is of these blocks between its first and its last, which tells how many they are.
+// Asserts that a report has these blocks between its first and its last, and that the last has their number.
 pub(crate) fn assert_report(rt: &impl Abort, given: &[u8], blocks: &[&str]) {
     let rest = behind(given, &[OPENING]).expect(rt, "an opening");
     let rest = behind(rest, blocks).expect(rt, "these blocks");

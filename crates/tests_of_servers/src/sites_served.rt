@@ -1,4 +1,5 @@
-//! Sites that are served: what their clients read, which of them are given up, what their journals show, and why they aren't served.
+//! Sites that are served: what their clients read, which of them are disconnected, what their journals show, and why sites can't be
+//! served.
 use crate::clients::{Client, Clients, act};
 use crate::replies::REPORT;
 use crate::serving::{HERE, Limit, are_free, bound, free_port, served, settings};
@@ -14,7 +15,7 @@ use std::sync::Wait;
 use std::thread::{Threads, join};
 use std::time::Clock;
 
-// Where sites listen whose log is looked at.
+// The address of sites whose log is asserted.
 fn there() -> Ipv4Addr {
     Ipv4Addr::new(127, 0, 0, 2)
 }
@@ -81,7 +82,7 @@ fn what_one_site_is_told_the_other_shows(rt: HostRuntime) {
     let journals = served_to(&rt, alloc, 24_300, 2, Limit::Usual, 1, Clients::OfTwoSites);
     assert!(&rt; journals.len() == 2);
     assert_shows(&rt, alloc, &journals, REPORT);
-    // The first site was told so, and the second has taken it.
+    // The first site got the add, and the second has taken its frame.
     assert!(&rt; has_done(&journals[0]) && !has_done(&journals[1]));
     drop(journals);
 }
@@ -98,13 +99,13 @@ fn the_first_thousand_steps_are_dropped(rt: HostRuntime) {
         Clients::One(Client::AskOften),
     );
     assert!(&rt; journals.len() == 1);
-    // A pump that finds the journal full with the session drops what little stands in it again.
+    // A pump that finds the journal full during the session drops its few steps.
     let start = journals[0].start();
     drop(journals);
     assert!(&rt; start >= 1_000 && start < 2_000);
 }
 
-// One site is served to one client, which may take so long.
+// One site is served to one client, with these time limits.
 fn assert_served<R>(rt: &R, alloc: Global, first: u16, limit: Limit, client: Client)
 where
     R: Net<Listener = TcpListener, Stream = TcpStream> + Abort + Threads + Wait + Clock + Sync,
@@ -115,13 +116,13 @@ where
 #[test]
 fn clients_that_take_too_long_lose_their_places(rt: HostRuntime) {
     let alloc = rt.alloc();
-    // No login in time, whatever is sent; nothing within the time for silence; and a login in time, after which silence is right.
+    // No login in time, whatever is sent; nothing within the limit of silence; and a login in time, after which silence is allowed.
     assert_served(&rt, alloc, 24_460, Limit::Login, Client::NotLoggedIn);
     assert_served(&rt, alloc, 24_480, Limit::Idle, Client::LoggedIn);
     assert_served(&rt, alloc, 24_500, Limit::Login, Client::Silent);
 }
 
-// Whether sites aren't served since this port can't be listened on.
+// Whether serving sites fails since this port is in use.
 fn is_taken(ended: &Result<Vec<Journaled>, ServeSitesFault>, port: u16) -> bool {
     match ended {
         Err(ServeSitesFault::CannotListen(own, _)) => *own == port,
@@ -129,7 +130,7 @@ fn is_taken(ended: &Result<Vec<Journaled>, ServeSitesFault>, port: u16) -> bool 
     }
 }
 
-// Why three sites aren't served where two ports are taken; whether their first port is free afterwards.
+// Why three sites aren't served if two ports are in use; and whether their first port is free afterwards.
 fn assert_cannot_listen<R>(rt: &R, alloc: Global, port: u16, one: u16, other: u16, told: u16)
 where
     R: Net<Listener = TcpListener, Stream = TcpStream> + Abort + Threads + Wait + Clock + Sync,
@@ -164,8 +165,8 @@ enum End {
     Taken(u16),
 }
 
-// Serves two sites at 127.0.0.2 that take no client, over a log that fails behind a number of writes. How that ends is asserted; what the
-// log has taken.
+// Serves two sites at 127.0.0.2 that take no client, over a log that fails after a number of writes. Asserts how that ends, and
+// returns what the log has taken.
 fn told<R>(rt: &R, alloc: Global, port: u16, writes: u64, wanted: End) -> MemorySink
 where
     R: Net<Listener = TcpListener, Stream = TcpStream> + Abort + Threads + Wait + Clock + Sync,
@@ -202,7 +203,7 @@ fn the_log_tells_who_listens(rt: HostRuntime) {
     assert!(&rt; lines.as_bytes().starts_with(log.as_slice()) && !log.as_slice().is_empty());
     drop(log);
     drop(lines);
-    // The log fails at once, but a port that is taken is told first.
+    // The log fails at once, but the fault of a port in use comes first.
     let taken = bound(&rt, there(), port);
     let log = told(&rt, alloc, port, 0, End::Taken(port));
     assert!(&rt; log.as_slice().is_empty());

@@ -33,7 +33,8 @@ fn a_sink_sends_what_its_writer_holds_back(rt: HostRuntime) {
     assert_bytes(&rt, writer.get_ref().as_slice(), b"abc");
 }
 
-// A device that first answers a number of errors of a kind, to reads and writes or to flushes, and else moves a byte.
+// A device that first fails a number of times with errors of a kind, at reads and writes or at flushes, and then moves one byte at
+// each call.
 #[derive(Drop)]
 struct Faulty {
     errors: u32,
@@ -75,7 +76,8 @@ impl Write for Faulty {
     }
 }
 
-// What a source or a sink answers over a device with a number of errors of a kind: it bears 999 interruptions, and no other error.
+// The result of a source or a sink over a device with a number of errors of a kind: it retries 999 interruptions, and no other
+// error.
 const ANSWERS: &[(u32, ErrorKind, Result<usize, Failed>)] = &[
     (999, ErrorKind::Interrupted, Ok(1)),
     (1000, ErrorKind::Interrupted, Err(Failed)),
@@ -93,7 +95,7 @@ fn failing_device(errors: u32, kind: ErrorKind) -> Faulty {
     }
 }
 
-// Asserts what a source answers to one read, for which its reader has answered all of its errors.
+// Asserts the result of one read of a source, after which its reader has returned all of its errors.
 fn assert_read(rt: &impl Abort, reader: Faulty, want: &Result<usize, Failed>) {
     let mut source = StdSource::new(reader);
     assert_same(rt, &source.read(&mut [0u8; 4]), want);
@@ -107,7 +109,7 @@ fn a_reader_that_is_interrupted_is_read_again(rt: HostRuntime) {
     }
 }
 
-// Asserts what a sink answers to one write, for which its writer has answered all of its errors.
+// Asserts the result of one write of a sink, after which its writer has returned all of its errors.
 fn assert_written(rt: &impl Abort, sink: StdSink<Faulty>, want: &Result<usize, Failed>)
     requires { sink.failed ≡ false }
 {
@@ -123,8 +125,8 @@ fn a_writer_that_is_interrupted_is_written_to_again(rt: HostRuntime) {
     }
 }
 
-// How often a sink may wait, how often its writer times out or would block, and what the sink answers. A write that waits once is the
-// sink's without a number.
+// How often a sink may wait, how often its writer times out or would block, the kind of that error, and the sink's result. A sink
+// without a number waits once.
 const WAITS: &[(u32, u32, ErrorKind, Result<usize, Failed>)] = &[
     (3, 2, ErrorKind::WouldBlock, Ok(1)),
     (3, 2, ErrorKind::TimedOut, Ok(1)),

@@ -1,5 +1,4 @@
-//! Worlds of sites: what scripts can't show of them, which is their sites, their entries, the outcomes that no line gives, and want
-//! of memory.
+//! Worlds of sites, beyond what scripts can show: the sites, the entries, outcomes that no line gives, and out of memory.
 use crate::shared::{assert_report, list, member_block, name, queue_block, site, whole_status};
 use Asked::{Abandoned, Add, Completed, Cut, Remove, Status, Take, Whole};
 use Came::{Done, Entry, NoEntry, NoSite, Reported, Taken};
@@ -10,8 +9,8 @@ use status_report::{Answer, Ask};
 use std::alloc::Global;
 use std::process::Abort;
 
-// What may be asked for at a site, told shortly, of the queue `sales`: an interface, then its penalty. An entry is told by its
-// place in the pool.
+// An ask of a site in short form, for the queue `sales`: an interface, then its penalty. An entry is given by its place in the
+// pool.
 #[derive(Clone, Copy)]
 enum Asked {
     Add(&'static str, u32),
@@ -24,7 +23,7 @@ enum Asked {
     Take(usize),
 }
 
-// What must come of it; never want of memory. A report is told by the blocks between its first and its last.
+// The expected outcome; never `NoMemory`. A report is given by the blocks between its first and its last.
 #[derive(Clone, Copy)]
 enum Came {
     Done,
@@ -35,7 +34,7 @@ enum Came {
     NoEntry,
 }
 
-// An event, told as its site, what is asked for there, and what must come of it.
+// An event in short form: its site, what is asked there, and the expected outcome.
 type Told = (u16, Asked, Came);
 
 fn sales(rt: &impl Abort) -> QueueName {
@@ -93,7 +92,7 @@ fn events_of(rt: &impl Abort, alloc: Global, told: &[Told]) -> Vec<Event> {
     events
 }
 
-// What comes of events, for which there is memory.
+// The outcomes of events, with ample memory.
 fn ran(rt: &impl Abort, world: &mut World, events: &[Event]) -> Vec<Outcome> {
     world.run(events).expect(rt, "memory")
 }
@@ -159,7 +158,7 @@ fn a_world_has_from_1_to_64_sites(rt: HostRuntime) {
     }
 }
 
-// Asserts what comes of events, and how many entries there are then.
+// Asserts the outcomes of events, and the number of entries after them.
 fn assert_outcomes(
     rt: &impl Abort,
     alloc: Global,
@@ -186,7 +185,7 @@ fn events_at_no_site_and_of_no_entry_are_told(rt: HostRuntime) {
         (5, Status, NoSite),
         (5, Cut, NoSite),
         (5, Whole, NoSite),
-        // A missing site is told before a missing entry.
+        // A missing site is reported before a missing entry.
         (5, Take(0), NoSite),
         (2, Take(0), NoSite),
         (1, Take(0), NoEntry),
@@ -269,7 +268,7 @@ const COUNTED: &[Told] = &[
     (0, Status, Reported(&[queue_block!("sales", "3", "1")])),
 ];
 
-// What comes of an event; none where memory is wanting.
+// The outcome of an event; `None` when out of memory.
 fn outcome_at_once(world: &mut World, event: Event) -> Option<Outcome> {
     match world.happen(event) {
         Outcome::NoMemory => None,
@@ -277,7 +276,7 @@ fn outcome_at_once(world: &mut World, event: Event) -> Option<Outcome> {
     }
 }
 
-// What comes of a copy of an event; none where memory is wanting.
+// The outcome of a copy of an event; `None` when out of memory.
 fn outcome_of(world: &mut World, event: &Event) -> Option<Outcome> {
     match event.copy() {
         Ok(copy) => outcome_at_once(world, copy),
@@ -285,7 +284,7 @@ fn outcome_of(world: &mut World, event: &Event) -> Option<Outcome> {
     }
 }
 
-// Lets an event happen, once more where memory is wanting, and asserts what comes of it. Answers whether memory was wanting.
+// Runs an event, retries it if it ran out of memory, and asserts its outcome. Returns whether it ran out of memory.
 fn happens_again(rt: &impl Abort, world: &mut World, event: &Event, wanted: Came) -> bool {
     if let Some(outcome) = outcome_of(world, event) {
         assert_outcome(rt, &outcome, wanted);
@@ -298,7 +297,7 @@ fn happens_again(rt: &impl Abort, world: &mut World, event: &Event, wanted: Came
     true
 }
 
-// Lets events happen one by one, and answers whether memory was wanting for one of them at first.
+// Runs events one by one, and returns whether one of them ran out of memory at first.
 fn happen_again(rt: &impl Abort, world: &mut World, events: &[Event], told: &[Told]) -> bool {
     let mut is_refused = false;
     for (event, (_, _, wanted)) in events.iter().zip(told) {
@@ -309,7 +308,7 @@ fn happen_again(rt: &impl Abort, world: &mut World, events: &[Event], told: &[To
     is_refused
 }
 
-// What comes of events is the same, whether memory is there at once, or wanting for one of them and there when it happens again.
+// The outcomes of events are the same whether memory is ample, or runs out for one of them, which is then retried.
 // tools/memory_tests.py runs this test with each allocation refused in turn.
 #[test]
 fn events_that_lack_memory_change_nothing_and_happen_again(rt: HostRuntime) {

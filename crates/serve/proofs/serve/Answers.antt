@@ -15,7 +15,7 @@ use Rattle.serve.proofs.serve.Goals as goal
 err_is : {T : Type 0} (r : Result T ServeFault) (a b : ServeFault) → r ≡ Err a → r ≡ Err b → a ≡ b
 err_is r a b one other = cc
 
--- a message ends the session as it is told
+-- the result says whether a message ends the session
 as_told : (told end is : Bool) → told ≡ end → told ≡ is → end ≡ is
 as_told told end is tells test = sym tells ∙ test
 

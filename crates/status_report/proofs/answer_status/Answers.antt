@@ -8,6 +8,6 @@ use Rattle.status_report.proofs.answer_status.Goals as goal
 pub returns-in-Ok-clause-meaning : goal.returns-in-Ok-clause-meaning
 returns-in-Ok-clause-meaning c = λ s stands. inl (stands, ap Report (c.in-Ok.ensures ∙ report_is c.args.replica.now s stands c.args.request.now))
 
--- want of memory may stand in its place
+-- the result may be out of memory instead
 pub returns-in-Err-clause-meaning : goal.returns-in-Err-clause-meaning
 returns-in-Err-clause-meaning c = λ s stands. inr (itself c.args.replica.now, refl)

@@ -2,7 +2,7 @@ use Rattle.std.proofs.Common.{◌≡◌, ◌++◌, ℕ, List, false, length}
 use Rattle.std.specs.Io.KnownBytes.{Appends}
 use Rattle.ami_text.proofs.writing.write_all.Given as goal
 
--- the writer works, and has taken the front of the bytes; the rest is left
+-- the writer works, and has taken the prefix of the bytes; the rest is left
 abbrev pub invariant-loop-rest : goal.invariant-loop-rest
 invariant-loop-rest g l = record {
   works : g.W.Sink.failed l.writer ≡ false;

@@ -1,7 +1,7 @@
 use Rattle.std.proofs.Common.{◌≡◌, ◌≤◌, ◌-◌}
 use Rattle.live_cells.proofs.live_runs.live_run_end.Given as goal
 
--- it is the run that begins there
+-- the run is the one that begins at the place
 abbrev pub invariant-loop-step : goal.invariant-loop-step
 invariant-loop-step l = record {
   dots : l.run.dots.now ≡ l.dots;

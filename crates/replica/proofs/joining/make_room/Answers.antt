@@ -5,7 +5,7 @@ use Rattle.member_orset.proofs.Agreeing.{sets_apart}
 use Rattle.replica.specs.Fitting.{IsTooFullFor}
 use Rattle.replica.proofs.joining.make_room.Goals as goal
 
--- what agrees is in conflict with nothing, and of the other faults want of memory alone isn't told as full
+-- a delta that agrees is in conflict with nothing, and of the other faults only out of memory isn't reported as full
 pub returns-in-Err-clause-full : goal.returns-in-Err-clause-full
 returns-in-Err-clause-full c full = by c.in-Err.fault refl
   where

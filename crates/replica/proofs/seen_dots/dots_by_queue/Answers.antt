@@ -23,7 +23,7 @@ loop-queue-preserved c =
       interface = c.loop-queue.invariant.interface;
     }
 
--- there is a dot in the queue for which memory was wanting
+-- there is a dot in the queue if its list ran out of memory
 pub returns-in_err-push_dots-clause-some : goal.returns-in_err-push_dots-clause-some
 returns-in_err-push_dots-clause-some c =
     let r = dot_view_of c.args.members.now in

@@ -16,11 +16,11 @@ Messages = List (List NameAndValue)
 abbrev EachReads : Type 0
 EachReads = (bytes : List ℕ) → (messages : Messages) × (ending : Ending) × Reads bytes messages ending
 
--- and one list of messages
+-- each stream has one list of messages
 abbrev OneList : Type 0
 OneList = (bytes : List ℕ) (messages others : Messages) (ending other : Ending) → Reads bytes messages ending → Reads bytes others other → messages ≡ others
 
--- and one ending
+-- each stream has one ending
 abbrev OneEnding : Type 0
 OneEnding = (bytes : List ℕ) (messages others : Messages) (ending other : Ending) → Reads bytes messages ending → Reads bytes others other → ending ≡ other
 

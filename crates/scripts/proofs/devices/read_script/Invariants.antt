@@ -2,7 +2,8 @@ use Rattle.std.proofs.Common.{◌≡◌, ◌≤◌, ◌<◌, ◌+◌, false, vec
 use Rattle.std.specs.Io.KnownBytes.{Consumes}
 use Rattle.scripts.proofs.devices.read_script.Given as goal
 
--- the reader works, no read has told its end, it was read once a round, and it has given what is held, a byte or more at each read
+-- the reader works, no read has returned its end, it was read once a round, and it has given what is held, a byte or more at each
+-- read
 abbrev pub invariant-loop : goal.invariant-loop
 invariant-loop g l = record {
   works : g.S.Source.failed l.reader ≡ false;

@@ -31,7 +31,7 @@ run_in_part place script text left left_new taken taken_new same stands short re
   written = subst (λ p. HasBegunText p (new_world place.sites) text taken taken_new) same (begun (new_world place.sites) stands);
 }
 
--- and one whose first lines were done there was run in whole lines
+-- a script whose first lines were done there was run in whole lines
 run_in_whole_lines : (place : ScriptSites) (script : Script) (text : List ℕ) (left left_new taken taken_new : Option (List ℕ))
     → place_of script ≡ place → StandsAt script.world (new_world place.sites) → length text ≤ 16777216 → Consumes left left_new text
     → ((w : World) → StandsAt script.world w → HasDoneLines (place_of script) w text taken taken_new)

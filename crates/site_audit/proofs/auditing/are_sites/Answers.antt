@@ -6,7 +6,7 @@ use Rattle.site_audit.proofs.Lists.{holds_all, holds_more}
 use Rattle.site_audit.proofs.Playing.{names_of_first}
 use Rattle.site_audit.proofs.auditing.are_sites.Goals as goal
 
--- so is the journal at the place
+-- the journal at the place is that of its site
 pub loop-place-preserved : goal.loop-place-preserved
 loop-place-preserved c =
     let low = c.loop-place-test.true in

@@ -3,7 +3,7 @@ use Rattle.site_journal.specs.Journals.{JournalState}
 use Rattle.site_audit.specs.Runs.{names_in}
 use Rattle.site_audit.proofs.auditing.are_sites.Given as goal
 
--- so it is of the journals so far
+-- the journals so far are those of their sites
 abbrev pub invariant-loop-place : goal.invariant-loop-place
 invariant-loop-place l = record {
   few : l.place ≤ 64;

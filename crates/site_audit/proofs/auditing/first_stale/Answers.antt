@@ -14,7 +14,7 @@ returns-then-not-is_from_new-clause-stale c = record {
   before = λ earlier k lt at. c.loop-place.invariant.whole earlier k lt at;
 }
 
--- it is
+-- the journal at the place is whole
 pub loop-place-preserved : goal.loop-place-preserved
 loop-place-preserved c =
     let here : slice_get c.args.journals.now c.loop-place.place ≡ Some c.index-journals-place.result =

@@ -3,7 +3,7 @@ use Rattle.site_journal.specs.Journals.{IsJournal, JournalState}
 use Rattle.site_audit.specs.Runs.{IsFromNew}
 use Rattle.site_audit.proofs.auditing.first_stale.Given as goal
 
--- so it is of the journals so far
+-- the journals so far are whole
 abbrev pub invariant-loop-place : goal.invariant-loop-place
 invariant-loop-place l = record {
   whole : (site : ℕ) (j : JournalState) → site < l.place → slice_get l.journals site ≡ Some j → IsFromNew j;

@@ -20,7 +20,7 @@ returns-then-at-place-clause-left c =
       before = λ earlier lt. c.loop-place.invariant earlier lt;
     }
 
--- it has none
+-- the site at the place has no steps left
 pub loop-place-preserved : goal.loop-place-preserved
 loop-place-preserved c =
     let low = c.loop-place-test.true in

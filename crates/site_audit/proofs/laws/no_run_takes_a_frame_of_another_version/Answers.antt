@@ -19,7 +19,7 @@ spells_entry names w (event.Take site place) bytes gives = (gives.1.spelling.fra
 spells_entry names w (event.Cut site) bytes gives = absurd gives
 spells_entry names w (event.Whole site) bytes gives = absurd gives
 
--- so it is with each step that events give a site
+-- each take that events give a site is of bytes that spell a frame in the version that sites write
 given_spells : (names : List (List ℕ)) (w : World) (es : List Event) (site position : ℕ) (steps : List Step) (step : Step) (bytes : List ℕ)
     → AreGiven names w es site steps → slice_get steps position ≡ Some step → step.deed ≡ Took bytes → (frame : Frame) × SpellsIn VERSION frame bytes
 given_spells names w [] site position steps step bytes given here took = absurd (none_some step (sym (ap (λ xs. slice_get xs position) given) ∙ here))

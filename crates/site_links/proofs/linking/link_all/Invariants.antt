@@ -3,7 +3,7 @@ use Rattle.std.specs.Prelude.{◌≡◌, ◌+◌, ◌<◌, ℕ, [], length, map,
 use Rattle.site_links.specs.Linking.{AreLinked, ends_of, place_of}
 use Rattle.site_links.proofs.linking.link_all.Given as goal
 
--- so many sites, without an end
+-- the first `i` sites, without an end
 abbrev pub invariant-loop-i : goal.invariant-loop-i
 invariant-loop-i l = (vec_len l.to ≡ l._i) × ((site : ℕ) → ends_of (map (λ to. to.items) l.to.items) site ≡ [])
 

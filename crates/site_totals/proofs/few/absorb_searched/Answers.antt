@@ -47,7 +47,7 @@ left c =
     let all = ap (λ rows. count_missing (entries_of c.loop-row.rows.items) (entries_of rows)) (begins c) in
     omega (arith, missing, all, c.loop-row.invariant.room)
 
--- so it is joined in
+-- the next entry is joined
 done : (c : After-join_one) → entries_of c.join_one.new.rows.items ≡ join_of (entries_of c.loop-row.rows.items) (single c.row-item.result.0 c.row-item.result.1)
 done c = made c.join_one.result (c.join_one.ensures.succeeds (let l = left c in omega arith)) c.join_one.ensures.ok
 

@@ -18,7 +18,7 @@ own_rows c =
     ap (λ n. drop n c.deref_mut.result.now) (sym few)
     ∙ turned old spare c.deref_mut.result.now c.len-own.result own (c.deref_mut.ensures.value ∙ c.rotate_left.ensures.items ∙ (λ i. drop c.len-own.result (grown i) ++ take c.len-own.result (grown i)))
 
--- and the join is written over both
+-- the join is written over the spare places and the old entries
 items : (c : After-merge) → take c.rotate_left.new.self.len (c.merge.new.rows ++ drop (length c.merge.new.rows) c.rotate_left.new.self.items) ≡ joined_rows c.args.rows.now.items c.args.others.now
 items c =
     take_at c.merge.new.rows (drop (length c.merge.new.rows) c.rotate_left.new.self.items) c.rotate_left.new.self.len (omega arith)

@@ -4,7 +4,7 @@ use Rattle.site_totals.specs.TotalLists.{Row, joined_rows}
 use Rattle.site_totals.proofs.JoinedRows.{joined_lengths}
 use Rattle.site_totals.proofs.joining.merge.Goals as goal
 
--- as many entries are left to be written as places
+-- there are as many entries left to write as places
 left : (rows whole rest : List Row) (written : ℕ) → written ≤ length rows → take written rows ++ rest ≡ whole → written + length rest ≡ length whole
 left rows whole rest written within is =
     let lengths = sym (length-append (take written rows) rest) ∙ ap length is in

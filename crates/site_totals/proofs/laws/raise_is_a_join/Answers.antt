@@ -15,7 +15,7 @@ some : (calls : Calls) (n : ℕ) → is_zero (alone calls (n + 1)) ≡ false
 some Completed n = grind (arith, nat_tests)
 some Abandoned n = grind (arith, nat_tests)
 
--- and greater than the total before
+-- a total with one more call is the join with that total alone
 greater_alone : (calls : Calls) (p : CallTotals) → one_more calls p ≡ greater p (alone calls (number_of calls p + 1))
 greater_alone Completed p = by_numbers _ _ (omega arith) (omega arith)
 greater_alone Abandoned p = by_numbers _ _ (omega arith) (omega arith)

@@ -25,7 +25,7 @@ returns-clause-kept c = subst IsKept (sym (items c)) (kept_by_put _ c.requires.k
 pub returns-clause-ok : goal.returns-clause-ok
 returns-clause-ok c = ap entries_of (items c) ∙ joined_by_put _ c.requires.kept.rising _ _ (sym c.is_zero.ensures ∙ c.if-is_zero.false)
 
--- as many places are taken as keys were missing
+-- as much room is used as keys were missing
 pub returns-clause-room : goal.returns-clause-room
 returns-clause-room c =
     let missing = missing_one c.args.rows.now.items c.requires.kept.rising c.args.key c.args.totals (sym c.is_zero.ensures ∙ c.if-is_zero.false) in

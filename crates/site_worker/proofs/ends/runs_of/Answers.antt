@@ -29,7 +29,7 @@ pub run_of-requires-clause-none : goal.run_of-requires-clause-none
 run_of-requires-clause-none g c = λ _ _.
     (each_pop (λ k lists. vec_len lists ≡ 0) c.loop-end.receipts.items c.pop-in-Some.new.self.items c.in-Some-pop.lists c.in-Some-pop.ensures.items c.loop-end.invariant.5).1
 
--- and is room for a list of each output
+-- the last room is for a list of each output
 pub run_of-requires-clause-room : goal.run_of-requires-clause-room
 run_of-requires-clause-room g c = λ _ _.
     let few = (each_pop (λ k end. vec_len end.outputs ≤ MOST_RUN_PASSES) c.loop-end.ends.items c.pop.new.self.items c.in-Some.end c.in-Some.ensures.items c.loop-end.invariant.4).1 in

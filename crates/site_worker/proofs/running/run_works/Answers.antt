@@ -16,7 +16,7 @@ runs_of-requires-clause-gates g c = λ _ _.
     all_first g.G.Gate.called c.args.list.now c.args.works.items c.in-Ok-all_tasks.all.items c.in-Ok-launch.ends.items c.in-Ok-all_tasks.ensures c.in-Ok-launch.ensures.ends
     (omega (arith, many, number, c.in-Ok-launch.ends.ok.0, c.in-Ok-all_tasks.all.ok.0))
 
--- and few passes
+-- each site has few passes
 pub runs_of-requires-clause-passes : goal.runs_of-requires-clause-passes
 runs_of-requires-clause-passes g c = λ _ _.
     let many = c.in-Ok-launch.ensures.number in

@@ -8,7 +8,7 @@ use Rattle.sites_world.specs.Conditions.{ComesOfAsk}
 use Rattle.sites_world.proofs.ToldByConditions.{asked_comes}
 use Rattle.sites_world.proofs.run.ask_site.Goals as goal
 
--- the answer is told
+-- the outcome is that of the answer
 pub returns-clause-meaning : goal.returns-clause-meaning
 returns-clause-meaning c = λ s stands.
     let old = c.args.replica.now in
@@ -21,7 +21,7 @@ returns-clause-unchanged c = λ nothing.
     answered_unchanged c.args.replica.now c.ask.new.replica c.args.asked c.ask.result c.ask.ensures.command c.ask.ensures.status_unchanged
     (ap changes_nothing (sym c.answer_told.ensures) ∙ nothing)
 
--- it is what comes of the ask
+-- the outcome meets the conditions of the ask
 pub returns-clause-conditions : goal.returns-clause-conditions
 returns-clause-conditions c =
     let old = c.args.replica.now in

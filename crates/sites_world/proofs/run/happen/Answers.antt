@@ -43,7 +43,7 @@ returns-in-None-clause-meaning c = λ names w reached stands.
 pub returns-in-None-clause-unchanged : goal.returns-in-None-clause-unchanged
 returns-in-None-clause-unchanged c = λ nothing. sites_unchanged c.args.sites.now.items
 
--- told by conditions
+-- the outcome by conditions
 pub returns-in-Some-clause-conditions : goal.returns-in-Some-clause-conditions
 returns-in-Some-clause-conditions c = λ names is.
     let sites = c.args.sites.now.items in

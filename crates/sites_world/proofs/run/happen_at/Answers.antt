@@ -47,7 +47,7 @@ returns-in-None-clause-meaning c = λ s entries stands at corresponds may.
     (subst (λ x. HasHappenedAt c.args.replica.now s old old entries (taken s x) NoEntry) (sym none)
     (missing_happened c.args.replica.now s old entries corresponds stands))
 
--- ---- told by conditions
+-- ---- the outcome by conditions
 
 pub returns-in-Ask-clause-conditions : goal.returns-in-Ask-clause-conditions
 returns-in-Ask-clause-conditions c = λ entries corresponds may.

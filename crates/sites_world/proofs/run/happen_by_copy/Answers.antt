@@ -13,7 +13,7 @@ returns-in-Err-clause-conditions c = λ names is.
     leads_wanting (record { names = names; sites = c.args.sites.now.items; pool = c.args.pool.now.items }) c.args.event.now c.in-Err.ensures.asks
     (λ site command told. absurd (true≢false (sym (subst IsOk c.in-Err.is (c.copy.ensures.command site command told))))) (omega (arith, at, less, len))
 
--- it asks for a status, which has no value
+-- an event whose copy ran out of memory asks for a status, which has no values
 pub returns-in-Err-clause-values : goal.returns-in-Err-clause-values
 returns-in-Err-clause-values c = status_within c.args.event.now c.in-Err.ensures.asks (λ site command told. absurd (true≢false (sym (subst IsOk c.in-Err.is (c.copy.ensures.command site command told)))))
 

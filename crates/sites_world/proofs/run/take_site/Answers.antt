@@ -30,7 +30,7 @@ returns-clause-meaning c = λ s k stands is may.
           refused.no_such_queue.0 (λ e. (refused.not_mine.0 e).1) (λ e. (refused.conflict.0 e).1) (w.in-Err.ensures.meaning s k stands copied may.none_later))
     ]
 
--- one that is taken tells a change
+-- a take that joins its frame isn't one that changes nothing
 pub returns-clause-unchanged : goal.returns-clause-unchanged
 returns-clause-unchanged c = λ nothing. elim c.match-take.branch [
   | in-Ok-take w ↦ absurd (true≢false (sym nothing ∙ ap changes_nothing w.result-is))

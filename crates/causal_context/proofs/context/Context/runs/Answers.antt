@@ -28,7 +28,7 @@ of_run q r limits h = record {
     most : (q : Dot) (r : Run) → in_run q r ≡ true → q.count ≤ r.last
     most q r h = grind (arith, nat_tests)
 
--- and so is each dot of such runs
+-- each dot of runs within the limits is within the limits
 are_dots : (rs : List Run) (dots : sets.FinSet dot_cmp) → IsRunsOf rs dots → All IsRunWithinLimits rs → AreDots dots
 are_dots rs dots is limits q h = let found = in_any (in_run q) rs (sym (is.same q) ∙ h) in of_run q found.0 (All-contains IsRunWithinLimits rs found.0 limits found.1) found.2
 

@@ -2,7 +2,7 @@ use Rattle.std.proofs.Common.{sym, ◌∙◌}
 use Rattle.lww_registers.proofs.fields.Fields.agrees.Goals as goal
 use Rattle.lww_registers.proofs.fields.Fields.agrees.Goals.{then-agrees, else-agrees, then-agrees-2, else-agrees-2}
 
--- the first three agree, and so the fourth tells
+-- the first three agree, so the fourth decides
 pub returns-then-agrees-3-clause-agree : goal.returns-then-agrees-3-clause-agree
 returns-then-agrees-3-clause-agree c = rw (← c.self.view_is, ← c.other.view_is) elim c.if-agrees-2.branch [
   | then-agrees-2 w2 ↦ elim c.if-agrees.branch [

@@ -18,7 +18,7 @@ returns-then-total-ge-MOST_CALLS c = inr
     (count_full _ c.self.invariant.kept c.self.invariant.state_limits c.self.invariant.pending_limits c.args.queue.now c.args.calls c.in-Some.number (sym c.position.ensures.number ∙ c.in-Some.is)
     (subst (λ n. MOST_CALLS ≤ n) (c.number_of-total.ensures ∙ ap (number_of c.args.calls) (c.of.ensures.value ∙ ap (λ t. totals_of t.entries c.self.inside.site c.in-Some.number) c.totals.ensures)) c.if-total-ge-MOST_CALLS.true)))
 
--- memory for the change was wanting
+-- the change ran out of memory
 pub returns-in-Err : goal.returns-in-Err
 returns-in-Err c =
     let total = c.number_of-total.ensures ∙ ap (number_of c.args.calls) (c.of.ensures.value ∙ ap (λ t. totals_of t.entries c.self.inside.site c.in-Some.number) c.totals.ensures) in

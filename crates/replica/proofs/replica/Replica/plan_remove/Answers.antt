@@ -16,7 +16,7 @@ removed-requires c =
     let are = c.deref.ensures.value ∙ c.in-Ok.ensures.list ∙ ap (λ m. each (λ p. p.0) (dots_seen (dot_view_of m) (Some c.in-Some.number) c.args.interface.now)) c.members-members.ensures.value in
     subst (λ (dots : List Dot). length dots ≤ MOST_LIVE) (sym are) (seen_few _ c.self.invariant.kept c.self.invariant.state_limits (Some c.in-Some.number) c.args.interface.now)
 
--- some dots were seen where memory for them was wanting
+-- some dots were seen if their list ran out of memory
 pub returns-in_default-seen_dots : goal.returns-in_default-seen_dots
 returns-in_default-seen_dots c =
     let some = subst (λ m. dots_seen (dot_view_of m) (Some c.in-Some.number) c.args.interface.now ≢ []) c.members-members.ensures.value c.in_default-seen_dots.ensures.some in
@@ -27,7 +27,7 @@ returns-in_default-seen_dots c =
           (remove_means _ c.self.invariant.kept c.args.queue.now c.args.interface.now c.in-Some.number (sym c.position.ensures.number ∙ c.in-Some.is)) some),
     )
 
--- and where memory for the change was
+-- some dots were seen if the change ran out of memory
 pub returns : goal.returns
 returns c =
     let are = c.deref.ensures.value ∙ c.in-Ok.ensures.list ∙ ap (λ m. each (λ p. p.0) (dots_seen (dot_view_of m) (Some c.in-Some.number) c.args.interface.now)) c.members-members.ensures.value in

@@ -25,7 +25,7 @@ use Rattle.replica.proofs.replica.Replica.plan_write.Goals as goal
 one : (n : ℕ) → n + 1 ≡ suc n
 one n = omega arith
 
--- some dots were seen where memory for them was wanting
+-- some dots were seen if their list ran out of memory
 pub returns-in_default : goal.returns-in_default
 returns-in_default c =
     let some = subst (λ m. dots_seen (dot_view_of m) c.args.queue c.args.interface.now ≢ []) c.members-members.ensures.value c.in_default.ensures.some in

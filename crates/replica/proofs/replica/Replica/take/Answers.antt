@@ -37,7 +37,7 @@ returns-in-Err-prepare-clause-refusals c =
     subst (λ (t : TakeFault). IsRefusedTake s d (λ f. t ≡ f)) (sym c.take_fault_of.ensures)
     (refusals_joined s d c.in_default.ensures.heard c.prepare.result c.in-Err-prepare.fault c.in-Err-prepare.is refused)
 
--- nor is what is prepared refused once more
+-- a delta that was prepared isn't refused
 pub returns-in-Err-prepare-clause-prepared : goal.returns-in-Err-prepare-clause-prepared
 returns-in-Err-prepare-clause-prepared c = λ hears ready.
     let d = c.args.frame.delta in
