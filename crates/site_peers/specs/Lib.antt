@@ -5,3 +5,4 @@ pub mod Received
 pub mod Links
 pub mod Sent
 pub mod Windows
+pub mod Turns

@@ -1,5 +1,7 @@
 //! A thread of a site that accepts links, and lets the site take the frames that come over them.
-ghost use Rattle.std.specs.Prelude.{◌≡◌};
+ghost use Rattle.std.specs.Prelude.{◌≡◌, List, Option};
+ghost use Rattle.site_journal.specs.Ports.{PortWork};
+ghost use Rattle.site_peers.specs.Turns.{WorksInTurn};
 
 use crate::clock::millis;
 use crate::peer_links::wake;
@@ -129,7 +131,9 @@ fn hear_frames<R: Wait + Clock, G: Drop, P: Port<R>>(
     keys: LinkKeys,
     port: &mut P,
 ) -> HearFault
-    ensures { P.ordinal port.new ≡ P.ordinal port.old }
+    ensures work { (receipts : List Receipt) × (fault : Option DeskFault)
+        × PortWork P.makes P.refuses port.old receipts fault port.new }
+    ensures ordinal { P.ordinal port.new ≡ P.ordinal port.old }
 {
     let LinkKeys {
         items,
@@ -187,7 +191,9 @@ fn hear_link<
     G: Ring<R> + Drop,
     P: Port<R>,
 >(rt: &R, alloc: Global, links: &PeerLinks<G>, log: LinkLog<'_>, stream: &TcpStream, port: &mut P)
-    ensures { P.ordinal port.new ≡ P.ordinal port.old }
+    ensures work { (receipts : List Receipt) × (fault : Option DeskFault)
+        × PortWork P.makes P.refuses port.old receipts fault port.new }
+    ensures ordinal { P.ordinal port.new ≡ P.ordinal port.old }
 {
     let Meeting { site, keys } = match meet(rt, links, stream) {
         Ok(meeting) => meeting,
@@ -223,7 +229,10 @@ pub fn hear_peers<
     listener: &TcpListener,
     port: &mut P,
 )
-    ensures { P.ordinal port.new ≡ P.ordinal port.old }
+    // The port did works in turn: the steps of receipts, then a stop for a fault if there is one.
+    ensures works { (works : List (List Receipt × Option DeskFault))
+        × WorksInTurn P.makes P.refuses port.old works port.new }
+    ensures ordinal { P.ordinal port.new ≡ P.ordinal port.old }
 {
     for _ in rt.forever() {
         let stream = accept(rt, log, listener);
