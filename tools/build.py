@@ -186,8 +186,9 @@ class Build:
 
 @contextlib.contextmanager
 def locked(names):
-    """Keeps other commands of rt out of these crates, as each of them keeps out others: by a lock on the folders."""
-    held = [os.open(folder(it), os.O_RDONLY) for it in names]
+    """Keeps other commands of rt out of these crates, as each of them keeps out others: by a lock on the folders. All lock them in the
+    same order, so no two wait for each other."""
+    held = [os.open(folder(it), os.O_RDONLY) for it in sorted(names)]
     try:
         for it in held:
             fcntl.flock(it, fcntl.LOCK_EX)
