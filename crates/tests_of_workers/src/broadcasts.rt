@@ -1,5 +1,6 @@
 //! Which outlet is given which frame of a broadcast: frames of one byte, which is the number of their step.
 ghost use Rattle.std.specs.Prelude.{◌≡◌, ◌≤◌, ℕ, [], IfOk, vec_capacity, vec_len};
+ghost use Rattle.dots.specs.declared.limits.TheConstants.{MOST_COUNT};
 
 use dots::{Bytes, MOST_COUNT, Memory};
 use site_journal::{Bell, DeskFault, Port, Receipt, StepDeed};
