@@ -947,7 +947,7 @@ def deaf_standard_error(clients=300):
         number = sum(b": login failed" in it or b": closed after" in it for it in lines) + int(dropped[1])
         waiting = sum(b": waits for a place" in it for it in lines)
         all_events = clients * SLOTS * (TRIES + 1)
-        need(all_events <= number + waiting and int(dropped[1]) > 0, f"{number} lines are told of {all_events}")
+        need(all_events <= number + waiting and int(dropped[1]) > 0, f"{number} lines are logged of {all_events}")
     return f"a standard error that nobody reads: {int(dropped[1]):,} lines dropped"
 
 

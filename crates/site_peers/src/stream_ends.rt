@@ -126,7 +126,7 @@ impl<'a, R: Clock> StreamAcknowledgements<'a, R> {
         }
     }
 
-    // Takes a piece of what comes back. Returns the last number in it.
+    // Reads a piece of the acceptor's bytes. Returns the last number in it.
     fn take(&mut self, piece: &[u8]) -> Result<Option<u64>, OutletFault> {
         if let Err(fault) = self.receiver.feed(piece) {
             return Err(OutletFault::Receive(fault));

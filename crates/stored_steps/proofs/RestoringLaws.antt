@@ -36,79 +36,79 @@ none_replayed from limit j fresh = record {
 }
 
 step_rows_on : (xs ys : List Stored) → step_rows (xs ++ ys) ≡ step_rows xs ++ step_rows ys
-step_rows_on xs ys = filter-append (λ row. not (is_start row)) xs ys
+step_rows_on xs ys = filter-append (λ stored. not (is_start stored)) xs ys
 
 -- the rows up to the next one, and that one
-pub one_more_replayed : (from : SiteState) (j : JournalState) (rows : List Stored) (row : Stored) (i : ℕ) → i < length rows → row ≡ get_or rows i row → HasReplayed from (take i rows ++ row ∷ []) j
+pub one_more_replayed : (from : SiteState) (j : JournalState) (rows : List Stored) (stored : Stored) (i : ℕ) → i < length rows → stored ≡ get_or rows i stored → HasReplayed from (take i rows ++ stored ∷ []) j
     → HasReplayed from (take (i + 1) rows) j
-one_more_replayed from j rows row i lt is p =
-    subst (λ (l : List Stored). HasReplayed from l j) (sym (take_more rows i row lt ∙ ap (λ (r : Stored). take i rows ++ r ∷ []) (sym is))) p
+one_more_replayed from j rows stored i lt is p =
+    subst (λ (l : List Stored). HasReplayed from l j) (sym (take_more rows i stored lt ∙ ap (λ (r : Stored). take i rows ++ r ∷ []) (sym is))) p
 
 -- all rows are
 pub all_replayed : (from : SiteState) (j : JournalState) (rows : List Stored) (n : ℕ) → n ≡ length rows → HasReplayed from (take n rows) j → HasReplayed from rows j
 all_replayed from j rows n size p = subst (λ (l : List Stored). HasReplayed from l j) (take_all n rows (omega arith)) p
 
-no_step_row : (rows : List Stored) (row : Stored) → row ≡ start_row → step_rows (rows ++ row ∷ []) ≡ step_rows rows
-no_step_row rows row is = step_rows_on rows (row ∷ []) ∙ ap (λ (r : Stored). step_rows rows ++ step_rows (r ∷ [])) is ∙ append-nil (step_rows rows)
+no_step_row : (rows : List Stored) (stored : Stored) → stored ≡ start_row → step_rows (rows ++ stored ∷ []) ≡ step_rows rows
+no_step_row rows stored is = step_rows_on rows (stored ∷ []) ∙ ap (λ (r : Stored). step_rows rows ++ step_rows (r ∷ [])) is ∙ append-nil (step_rows rows)
 
 -- the row of a start changes nothing
-pub start_replayed : (from : SiteState) (rows : List Stored) (j : JournalState) (row : Stored) → is_start row ≡ true → HasReplayed from rows j → HasReplayed from (rows ++ row ∷ []) j
-start_replayed from rows j row started p =
-    let is : row ≡ start_row = started_row row started in
-    let same : step_rows (rows ++ row ∷ []) ≡ step_rows rows = no_step_row rows row is in
+pub start_replayed : (from : SiteState) (rows : List Stored) (j : JournalState) (stored : Stored) → is_start stored ≡ true → HasReplayed from rows j → HasReplayed from (rows ++ stored ∷ []) j
+start_replayed from rows j stored started p =
+    let is : stored ≡ start_row = started_row stored started in
+    let same : step_rows (rows ++ stored ∷ []) ≡ step_rows rows = no_step_row rows stored is in
     record {
       dropped = p.dropped;
-      kept = p.kept ++ row ∷ [];
-      rows_are = ap (λ (l : List Stored). l ++ row ∷ []) p.rows_are ∙ append_assoc p.dropped p.kept (row ∷ []);
+      kept = p.kept ++ stored ∷ [];
+      rows_are = ap (λ (l : List Stored). l ++ stored ∷ []) p.rows_are ∙ append_assoc p.dropped p.kept (stored ∷ []);
       begun = p.begun;
-      led = lead_on from j.replica j.replica rows (row ∷ []) p.led (j.replica, inr (is, site_itself j.replica), site_itself j.replica);
-      steps = p.steps ∙ sym (no_step_row p.kept row is);
+      led = lead_on from j.replica j.replica rows (stored ∷ []) p.led (j.replica, inr (is, site_itself j.replica), site_itself j.replica);
+      steps = p.steps ∙ sym (no_step_row p.kept stored is);
       within = p.within;
       count = p.count ∙ sym (ap length same);
       all = λ few. p.all (subst (λ (n : ℕ). n ≤ j.limit) (ap length same) few);
     }
 
 -- of another kind no row is that of a start
-other_kind : (row : Stored) (k : ℕ) → row.kind ≡ k → nat_eq k 6 ≡ false → is_start row ≡ false
-other_kind row k e differs = ap (λ (n : ℕ). nat_eq n 6 && (nat_eq row.pass 0 && nat_eq (length row.bytes) 0)) e ∙ ap (λ (b : Bool). b && (nat_eq row.pass 0 && nat_eq (length row.bytes) 0)) differs
+other_kind : (stored : Stored) (k : ℕ) → stored.kind ≡ k → nat_eq k 6 ≡ false → is_start stored ≡ false
+other_kind stored k e differs = ap (λ (n : ℕ). nat_eq n 6 && (nat_eq stored.pass 0 && nat_eq (length stored.bytes) 0)) e ∙ ap (λ (b : Bool). b && (nat_eq stored.pass 0 && nat_eq (length stored.bytes) 0)) differs
 
 -- the row of a step is that of no start
-pub no_start_row : (pass : ℕ) (d : StepDeed) (row : Stored) → row_of_deed pass d ≡ Some row → IsDeedWithinLimits d → is_start row ≡ false
-no_start_row pass d row e good = by (form_of pass d row e good)
+pub no_start_row : (pass : ℕ) (d : StepDeed) (stored : Stored) → row_of_deed pass d ≡ Some stored → IsDeedWithinLimits d → is_start stored ≡ false
+no_start_row pass d stored e good = by (form_of pass d stored e good)
   where
-    by : HasForm d row → is_start row ≡ false
-    by (inl a) = other_kind row 2 a.kind refl
-    by (inr (inl a)) = other_kind row 3 a.kind_is refl
-    by (inr (inr (inl a))) = other_kind row 4 a.kind_is refl
-    by (inr (inr (inr a))) = other_kind row 5 a.kind_is refl
+    by : HasForm d stored → is_start stored ≡ false
+    by (inl a) = other_kind stored 2 a.kind refl
+    by (inr (inl a)) = other_kind stored 3 a.kind_is refl
+    by (inr (inr (inl a))) = other_kind stored 4 a.kind_is refl
+    by (inr (inr (inr a))) = other_kind stored 5 a.kind_is refl
 
-one_kept : (row : Stored) → is_start row ≡ false → step_rows (row ∷ []) ≡ row ∷ []
-one_kept row differs = rw differs
+one_kept : (stored : Stored) → is_start stored ≡ false → step_rows (stored ∷ []) ≡ stored ∷ []
+one_kept stored differs = rw differs
 
-one_step_row : (rows : List Stored) (row : Stored) → is_start row ≡ false → step_rows (rows ++ row ∷ []) ≡ step_rows rows ++ row ∷ []
-one_step_row rows row differs = step_rows_on rows (row ∷ []) ∙ ap (λ (l : List Stored). step_rows rows ++ l) (one_kept row differs)
+one_step_row : (rows : List Stored) (stored : Stored) → is_start stored ≡ false → step_rows (rows ++ stored ∷ []) ≡ step_rows rows ++ stored ∷ []
+one_step_row rows stored differs = step_rows_on rows (stored ∷ []) ∙ ap (λ (l : List Stored). step_rows rows ++ l) (one_kept stored differs)
 
-one_row_more : (steps : List Step) (step : Step) (row : Stored) → row_of step ≡ Some row → rows_of (steps ++ step ∷ []) ≡ rows_of steps ++ row ∷ []
-one_row_more steps step row is = filter_map-append row_of steps (step ∷ []) ∙ ap (λ (o : Option Stored). rows_of steps ++ cons_option o []) is
+one_row_more : (steps : List Step) (step : Step) (stored : Stored) → row_of step ≡ Some stored → rows_of (steps ++ step ∷ []) ≡ rows_of steps ++ stored ∷ []
+one_row_more steps step stored is = filter_map-append row_of steps (step ∷ []) ∙ ap (λ (o : Option Stored). rows_of steps ++ cons_option o []) is
 
 -- a step that was done again is that of its row
-added_leads : (old new : JournalState) (row : Stored) (step : Step) → row_of step ≡ Some row → IsWithinLimits step → HasAdded old step new → RowsLead old.replica (row ∷ []) new.replica
-added_leads old new row step is good added = (new.replica, inl (record { step = step; row_is = is; within = good; leads = added.done }), site_itself new.replica)
+added_leads : (old new : JournalState) (stored : Stored) (step : Step) → row_of step ≡ Some stored → IsWithinLimits step → HasAdded old step new → RowsLead old.replica (stored ∷ []) new.replica
+added_leads old new stored step is good added = (new.replica, inl (record { step = step; row_is = is; within = good; leads = added.done }), site_itself new.replica)
 
 -- in a journal that had room
-step_kept : (from : SiteState) (rows : List Stored) (old new : JournalState) (row : Stored) (step : Step) → row_of step ≡ Some row → IsWithinLimits step → HasAdded old step new → HasReplayed from rows old
-    → HasReplayed from (rows ++ row ∷ []) new
-step_kept from rows old new row step is good added p =
-    let differs = no_start_row step.pass step.deed row is good in
-    let one = one_step_row rows row differs in
-    let size : length (step_rows (rows ++ row ∷ [])) ≡ length (step_rows rows) + 1 = ap length one ∙ length-append (step_rows rows) (row ∷ []) in
+step_kept : (from : SiteState) (rows : List Stored) (old new : JournalState) (stored : Stored) (step : Step) → row_of step ≡ Some stored → IsWithinLimits step → HasAdded old step new → HasReplayed from rows old
+    → HasReplayed from (rows ++ stored ∷ []) new
+step_kept from rows old new stored step is good added p =
+    let differs = no_start_row step.pass step.deed stored is good in
+    let one = one_step_row rows stored differs in
+    let size : length (step_rows (rows ++ stored ∷ [])) ≡ length (step_rows rows) + 1 = ap length one ∙ length-append (step_rows rows) (stored ∷ []) in
     record {
       dropped = p.dropped;
-      kept = p.kept ++ row ∷ [];
-      rows_are = ap (λ (l : List Stored). l ++ row ∷ []) p.rows_are ∙ append_assoc p.dropped p.kept (row ∷ []);
+      kept = p.kept ++ stored ∷ [];
+      rows_are = ap (λ (l : List Stored). l ++ stored ∷ []) p.rows_are ∙ append_assoc p.dropped p.kept (stored ∷ []);
       begun = subst (λ (s : SiteState). RowsLead from p.dropped s) (sym added.base) p.begun;
-      led = lead_on from old.replica new.replica rows (row ∷ []) p.led (added_leads old new row step is good added);
-      steps = ap rows_of added.steps ∙ one_row_more old.steps step row is ∙ ap (λ (l : List Stored). l ++ row ∷ []) p.steps ∙ sym (one_step_row p.kept row differs);
+      led = lead_on from old.replica new.replica rows (stored ∷ []) p.led (added_leads old new stored step is good added);
+      steps = ap rows_of added.steps ∙ one_row_more old.steps step stored is ∙ ap (λ (l : List Stored). l ++ stored ∷ []) p.steps ∙ sym (one_step_row p.kept stored differs);
       within = subst (λ (l : List Step). All IsWithinLimits l) (sym added.steps) (All-append IsWithinLimits old.steps (step ∷ []) p.within (All-cons IsWithinLimits step [] good (All-nil IsWithinLimits)));
       count = added.count ∙ ap (λ (n : ℕ). n + 1) p.count ∙ sym size;
       all = λ few. p.all (omega (arith, size, added.limit, few));
@@ -120,34 +120,34 @@ too_many j n is (inl full) count few = omega (arith, is.counted, full, count, fe
 too_many j n is (inr full) count few = omega (arith, is.few, full, count, few)
 
 -- in a journal that was full, and dropped its steps
-step_alone : (from : SiteState) (rows : List Stored) (old mid new : JournalState) (row : Stored) (step : Step) → row_of step ≡ Some row → IsWithinLimits step → IsJournal old → IsFull old → HasDropped old mid
-    → HasAdded mid step new → HasReplayed from rows old → HasReplayed from (rows ++ row ∷ []) new
-step_alone from rows old mid new row step is good journal full drops added p =
-    let differs = no_start_row step.pass step.deed row is good in
-    let one = one_step_row rows row differs in
-    let size : length (step_rows (rows ++ row ∷ [])) ≡ length (step_rows rows) + 1 = ap length one ∙ length-append (step_rows rows) (row ∷ []) in
+step_alone : (from : SiteState) (rows : List Stored) (old mid new : JournalState) (stored : Stored) (step : Step) → row_of step ≡ Some stored → IsWithinLimits step → IsJournal old → IsFull old → HasDropped old mid
+    → HasAdded mid step new → HasReplayed from rows old → HasReplayed from (rows ++ stored ∷ []) new
+step_alone from rows old mid new stored step is good journal full drops added p =
+    let differs = no_start_row step.pass step.deed stored is good in
+    let one = one_step_row rows stored differs in
+    let size : length (step_rows (rows ++ stored ∷ [])) ≡ length (step_rows rows) + 1 = ap length one ∙ length-append (step_rows rows) (stored ∷ []) in
     let all_steps : new.steps ≡ step ∷ [] = added.steps ∙ ap (λ (l : List Step). l ++ step ∷ []) drops.steps in
     let based : RowsLead from (rows ++ []) mid.base = lead_on from old.replica mid.base rows [] p.led drops.base in
     record {
       dropped = rows;
-      kept = row ∷ [];
+      kept = stored ∷ [];
       rows_are = refl;
       begun = subst₂ (λ (l : List Stored) (s : SiteState). RowsLead from l s) (append-nil rows) (sym added.base) based;
-      led = lead_on from old.replica new.replica rows (row ∷ []) p.led (subst (λ (s : SiteState). RowsLead s (row ∷ []) new.replica) drops.replica (added_leads mid new row step is good added));
-      steps = ap rows_of all_steps ∙ one_row_more [] step row is ∙ sym (one_kept row differs);
+      led = lead_on from old.replica new.replica rows (stored ∷ []) p.led (subst (λ (s : SiteState). RowsLead s (stored ∷ []) new.replica) drops.replica (added_leads mid new stored step is good added));
+      steps = ap rows_of all_steps ∙ one_row_more [] step stored is ∙ sym (one_kept stored differs);
       within = subst (λ (l : List Step). All IsWithinLimits l) (sym all_steps) (All-cons IsWithinLimits step [] good (All-nil IsWithinLimits));
       count = added.count ∙ ap (λ (n : ℕ). n + 1) (drops.count ∙ p.count) ∙ sym size;
       all = λ few. absurd (too_many old (length (step_rows rows)) journal full p.count (omega (arith, size, added.limit, drops.limit, few)));
     }
 
 -- a step is done again, in a journal that makes room for it
-pub step_replayed : (from : SiteState) (rows : List Stored) (old new : JournalState) (row : Stored) (step : Step) → row_of step ≡ Some row → IsWithinLimits step → HasReplayedStep old step new
-    → HasReplayed from rows old → HasReplayed from (rows ++ row ∷ []) new
-step_replayed from rows old new row step is good done p = by done.room
+pub step_replayed : (from : SiteState) (rows : List Stored) (old new : JournalState) (stored : Stored) (step : Step) → row_of step ≡ Some stored → IsWithinLimits step → HasReplayedStep old step new
+    → HasReplayed from rows old → HasReplayed from (rows ++ stored ∷ []) new
+step_replayed from rows old new stored step is good done p = by done.room
   where
-    by : HasRoom old done.mid → HasReplayed from (rows ++ row ∷ []) new
-    by (inl same) = step_kept from rows done.mid new row step is good done.added (subst (λ (j : JournalState). HasReplayed from rows j) (sym same) p)
-    by (inr (journal, full, drops)) = step_alone from rows old done.mid new row step is good journal full drops done.added p
+    by : HasRoom old done.mid → HasReplayed from (rows ++ stored ∷ []) new
+    by (inl same) = step_kept from rows done.mid new stored step is good done.added (subst (λ (j : JournalState). HasReplayed from rows j) (sym same) p)
+    by (inr (journal, full, drops)) = step_alone from rows old done.mid new stored step is good journal full drops done.added p
 
 -- and has the limit that it had
 pub step_limit : (old new : JournalState) (step : Step) → HasReplayedStep old step new → new.limit ≡ old.limit

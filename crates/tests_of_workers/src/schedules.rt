@@ -134,7 +134,7 @@ fn is_frame(receipt: &Receipt, bytes: &[u8]) -> bool {
     }
 }
 
-// Asserts that items are the frames of receipts, which are told by their places.
+// Asserts that items are the frames of receipts, which are given by their places.
 fn assert_frames(rt: &impl Abort, items: Vec<Vec<u8>>, receipts: &[Receipt], places: &[usize]) {
     assert!(rt; items.len() == places.len());
     for (item, place) in items.as_slice().iter().zip(places) {
