@@ -241,7 +241,7 @@ fn dial_until_end<
         log_fault(rt, log, peer, fault, last);
         last = Some(fault);
         if let Some(reason) = reason_of(fault) {
-            end_links(rt, links, reason);
+            end_links(rt, links, log, reason);
         }
         let was_long = was_up && has_passed(rt, begun, LONG_MILLIS);
         let pause = back_off.pause(end_of(fault, was_long), random(rt));

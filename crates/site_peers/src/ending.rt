@@ -1,4 +1,4 @@
-ghost use Rattle.std.specs.Prelude.{◌≡◌, None, Some};
+ghost use Rattle.std.specs.Prelude.{◌≡◌, ◌↔◌, IsTrue, None, Some};
 ghost use Rattle.site_peers.specs.declared.ending.EndReason.{EndReason};
 
 use std::sync::{Condvar, CondvarTimeouts, Mutex, Wait};
@@ -20,16 +20,22 @@ pub enum EndReason {
     /// A peer has seen a later start of this site's store.
     #[error("the store is an older copy")]
     OlderCopy,
+    /// A commit of its store has failed.
+    #[error("the store has failed")]
+    StoreFailed,
 }
 
-// Gives a reason, where none was given before.
-fn give_first(reason: &mut Option<EndReason>, given: EndReason)
+// Gives a reason, where none was given before. Returns whether none was.
+fn give_first(reason: &mut Option<EndReason>, given: EndReason) -> bool
+    ensures none { IsTrue result ↔ (reason.old ≡ None) }
     ensures first { reason.old ≡ None → reason.new ≡ Some given }
     ensures kept { (was : EndReason) → reason.old ≡ Some was → reason.new ≡ reason.old }
 {
-    if reason.is_none() {
+    let is_first = reason.is_none();
+    if is_first {
         *reason = Some(given);
     }
+    is_first
 }
 
 /// Whether a site ends, and why: the first reason that a thread of it gave. All threads of its links look at it.
@@ -48,12 +54,13 @@ impl Ending {
         }
     }
 
-    /// Ends the site for this reason, if it doesn't end yet.
-    pub fn end<R: Wait>(&self, rt: &R, reason: EndReason) {
+    /// Ends the site for this reason, if it doesn't end yet. Returns whether it didn't.
+    pub fn end<R: Wait>(&self, rt: &R, reason: EndReason) -> bool {
         let mut held = self.reason.lock(rt);
-        give_first(&mut held, reason);
+        let is_first = give_first(&mut held, reason);
         drop(held);
         self.changed.notify_all();
+        is_first
     }
 
     /// Why the site ends. `None`: it doesn't.

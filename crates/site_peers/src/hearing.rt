@@ -210,7 +210,7 @@ fn hear_link<
         log.log_lost(rt, site, fault);
     }
     if fault == HearFault::Refused(DeskFault::Take(TakeFault::NotMine)) {
-        end_links(rt, links, EndReason::NotMine);
+        end_links(rt, links, log, EndReason::NotMine);
     }
 }
 

@@ -1,4 +1,5 @@
 //! The lines that are logged of a site's links.
+use crate::EndReason;
 use crate::dialing::DialFault;
 use crate::hearing::HearFault;
 use dots::SiteId;
@@ -64,6 +65,13 @@ impl<'a> LinkLog<'a> {
     pub(crate) fn log_refused<R: Wait>(&self, rt: &R, fault: HearFault) {
         let site = self.site;
         let line = format!(in self.alloc; "queue_sites: site {site}: a link was refused: {fault}");
+        self.events.add(rt, line);
+    }
+
+    // The site ends.
+    pub(crate) fn log_end<R: Wait>(&self, rt: &R, reason: EndReason) {
+        let site = self.site;
+        let line = format!(in self.alloc; "queue_sites: site {site}: ends: {reason}");
         self.events.add(rt, line);
     }
 

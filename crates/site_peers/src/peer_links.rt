@@ -1,6 +1,6 @@
 ghost use Rattle.std.specs.Prelude.{◌≡◌};
 
-use crate::{EndReason, Ending, SharedOutbox, SharedQueue, SharedRoll};
+use crate::{EndReason, Ending, LinkLog, SharedOutbox, SharedQueue, SharedRoll};
 use dots::{Memory, SiteId};
 use link_hello::Card;
 use link_keys::Key;
@@ -130,13 +130,17 @@ pub(crate) fn wake<R: Net<Listener = TcpListener, Stream = TcpStream>>(rt: &R, o
     drop(TcpStream::connect_timeout(rt, own, wait));
 }
 
-/// Ends a site for this reason, if it doesn't end yet, and wakes the threads of its links: each ends.
+/// Ends a site for this reason, if it doesn't end yet, and wakes the threads of its links: each ends. The first reason is logged, in one
+/// line.
 pub fn end_links<R: Net<Listener = TcpListener, Stream = TcpStream> + Wait, G: Ring<R> + Drop>(
     rt: &R,
     links: &PeerLinks<G>,
+    log: LinkLog<'_>,
     reason: EndReason,
 ) {
-    links.ending.end(rt, reason);
+    if links.ending.end(rt, reason) {
+        log.log_end(rt, reason);
+    }
     links.bell.end(rt);
     wake(rt, &links.own);
 }

@@ -206,7 +206,7 @@ fn do_work<
     match task {
         Work::Add(asked, members) => {
             let shown = add_and_wait(rt, alloc, shared, desk, pass, asked, members);
-            end_links(rt, links, EndReason::Asked);
+            end_links(rt, links, log, EndReason::Asked);
             shown
         }
         Work::Spread => spread_frames(rt, alloc, shared, desk, pass),
