@@ -102,14 +102,17 @@ fn meet<R: Wait + RandomSource, G: Drop>(
     }
 }
 
-// Sends over a link what waits for its peer, until it falls or the site ends.
+// Sends over a link what waits for its peer, until it falls or the site ends. This number of frames of others had been taken when the
+// peer's queue was opened.
 fn send<R: Wait + Clock + RandomSource, G: Ring<R> + Drop>(
     rt: &R,
     alloc: Global,
     links: &PeerLinks<G>,
+    log: LinkLog<'_>,
     peer: &Peer,
     stream: &TcpStream,
     keys: LinkKeys,
+    taken: u64,
 ) -> DialFault {
     let LinkKeys {
         items,
@@ -123,14 +126,15 @@ fn send<R: Wait + Clock + RandomSource, G: Ring<R> + Drop>(
     let reader = StreamAcknowledgements::new(rt, alloc, stream, acknowledgements, now);
     let mut sink = WindowSink::new(rt, stream, reader);
     let mut sender = ItemSender::new(items);
-    let mut queue = LinkQueue::new(links, peer, now);
+    let mut queue = LinkQueue::new(links, log, peer, taken, now);
     let sent = send_items(rt, &mut queue, &mut sender, &mut sink);
     let fault = sink.fault();
     drop(queue);
     drop(sender);
     drop(sink);
     match (sent, fault) {
-        (Ok(()), _) => DialFault::Ending,
+        (Ok(()), _) if links.ending.reason(rt).is_some() => DialFault::Ending,
+        (Ok(()), _) => DialFault::NotPrepared,
         (Err(_), Some(fault)) => DialFault::Outlet(fault),
         (Err(fault), None) => DialFault::Send(fault),
     }
@@ -141,14 +145,16 @@ fn send_from_queue<R: Wait + Clock + RandomSource, G: Ring<R> + Drop>(
     rt: &R,
     alloc: Global,
     links: &PeerLinks<G>,
+    log: LinkLog<'_>,
     peer: &Peer,
     stream: &TcpStream,
     keys: LinkKeys,
 ) -> DialFault {
+    let taken = links.taken.load(Ordering::SeqCst);
     peer.queue.open(rt);
     links.up.fetch_add(1, Ordering::SeqCst);
     links.bell.ring(rt);
-    let fault = send(rt, alloc, links, peer, stream, keys);
+    let fault = send(rt, alloc, links, log, peer, stream, keys, taken);
     links.up.fetch_sub(1, Ordering::SeqCst);
     peer.queue.close(rt);
     fault
@@ -172,7 +178,7 @@ fn dial_once<
         }
     };
     log.log_up(rt, site, peer.address.as_str());
-    let fault = send_from_queue(rt, alloc, links, peer, &stream, keys);
+    let fault = send_from_queue(rt, alloc, links, log, peer, &stream, keys);
     drop(stream);
     (true, fault)
 }

@@ -45,6 +45,15 @@ impl<'a> LinkLog<'a> {
         self.events.add(rt, line);
     }
 
+    // Memory was refused for what waits for the peer at this address.
+    pub(crate) fn log_no_memory<R: Wait>(&self, rt: &R, address: &str) {
+        let site = self.site;
+        let line = format!(in self.alloc;
+            "queue_sites: site {site}: link to {address}: out of memory for what waits"
+        );
+        self.events.add(rt, line);
+    }
+
     // A link from a peer is up.
     pub(crate) fn log_heard<R: Wait>(&self, rt: &R, peer: SiteId) {
         let (site, peer) = (self.site, peer.number());
