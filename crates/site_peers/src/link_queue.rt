@@ -1,7 +1,7 @@
 //! What a link over TCP has to send: a beat each second, and what waits for its peer.
 use crate::clock::{millis, random};
 use crate::peer_links::Peer;
-use crate::{ItemQueue, LinkLog, PeerLinks, Ring};
+use crate::{EndReason, ItemQueue, LinkLog, PeerLinks, Ring};
 use link_stream::Item;
 use std::random::RandomSource;
 use std::sync::Wait;
@@ -93,6 +93,21 @@ fn ring_for_whole<R: Wait, G: Ring<R> + Drop>(rt: &R, queue: &mut LinkQueue<'_, 
     }
 }
 
+// What a site that ends still sends: what waits, if it was asked to end, else nothing.
+fn last_item<R: Wait + Clock, G: Drop>(
+    rt: &R,
+    queue: &mut LinkQueue<'_, G>,
+    reason: EndReason,
+) -> Option<Item> {
+    if reason != EndReason::Asked {
+        return None;
+    }
+    match queue.peer.queue.take_within(rt, Duration::ZERO) {
+        Some(frame) => Some(Item::Frame(frame)),
+        None => None,
+    }
+}
+
 impl<'a, R: Wait + Clock + RandomSource, G: Ring<R> + Drop> ItemQueue<R> for LinkQueue<'a, G> {
     ghost use Rattle.std.specs.Prelude.{⊤};
 
@@ -102,8 +117,8 @@ impl<'a, R: Wait + Clock + RandomSource, G: Ring<R> + Drop> ItemQueue<R> for Lin
 
     fn next_item(&mut self, rt: &R) -> Option<Item> {
         for _ in rt.forever() {
-            if self.links.ending.reason(rt).is_some() {
-                return None;
+            if let Some(reason) = self.links.ending.reason(rt) {
+                return last_item(rt, self, reason);
             }
             let now = millis(rt)?;
             if now >= self.beat {

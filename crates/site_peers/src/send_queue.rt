@@ -106,6 +106,15 @@ impl SendQueue {
         self.is_asked = true;
     }
 
+    /// Makes a whole due, which then waits also if it says the same as the last one. All frames are given up. Where the peer isn't
+    /// connected the queue stays as it is.
+    pub fn require_whole(&mut self)
+        ensures open { self.old.box.is_open ≡ true → self.new ≡ without_frames self.old }
+        ensures closed { self.old.box.is_open ≡ false → self.new ≡ self.old }
+    {
+        self.frames.require_whole();
+    }
+
     /// True if a whole is to be made for the peer: it is connected, and a whole is due, asked for, or being made.
     pub fn wants_whole(&self) -> bool
         ensures { IsTrue result ↔ WantsWhole self.now }

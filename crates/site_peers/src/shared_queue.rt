@@ -36,6 +36,11 @@ impl SharedQueue {
         self.queue.lock(rt).ask_whole();
     }
 
+    /// Makes a whole due, which waits also if it says the same as the last one.
+    pub fn require_whole<R: Wait>(&self, rt: &R) {
+        self.queue.lock(rt).require_whole();
+    }
+
     /// True if a whole is to be made for the peer.
     pub fn wants_whole<R: Wait>(&self, rt: &R) -> bool {
         self.queue.lock(rt).wants_whole()

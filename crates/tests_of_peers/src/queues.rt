@@ -122,3 +122,21 @@ fn a_whole_answers_no_later_ask(rt: HostRuntime) {
     assert_taken(&rt, &mut queue, "more");
     drop(queue);
 }
+
+#[test]
+fn a_whole_that_is_required_waits_though_it_says_the_same(rt: HostRuntime) {
+    let alloc = rt.alloc();
+    let mut queue = SendQueue::new(alloc, BOX_BYTES);
+    queue.require_whole();
+    assert!(rt; !queue.wants_whole());
+    queue.open();
+    give(&rt, alloc, &mut queue, 1, "all");
+    assert_taken(&rt, &mut queue, "all");
+    queue.put(b"one").expect(&rt, "memory");
+    queue.require_whole();
+    assert!(rt; queue.is_idle());
+    give(&rt, alloc, &mut queue, 2, "all");
+    assert_taken(&rt, &mut queue, "all");
+    assert_taken(&rt, &mut queue, "");
+    drop(queue);
+}
