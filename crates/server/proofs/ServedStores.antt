@@ -5,7 +5,7 @@ use Rattle.std.proofs.lemmas.Option.{get_or_from_slice_get, slice_get_within}
 use Rattle.replica.specs.Site.{IsSameSite, SiteState}
 use Rattle.site_desk.specs.Passes.{PassState}
 use Rattle.site_journal.specs.declared.step.Step.{Step}
-use Rattle.site_threads.specs.Places.{AtEach}
+use Rattle.launcher.specs.Places.{AtEach}
 use Rattle.stored_threads.specs.StoredEnds.{HaveStoredEnds}
 use Rattle.stored_threads.specs.declared.stored_site_tasks.StoredSiteOutput.{StoredSiteOutput}
 use Rattle.stored_threads.specs.declared.stored_site_tasks.StoredSiteTasks.{StoredSiteTasks}

@@ -8,7 +8,7 @@ ghost use Rattle.ami_text.specs.Devices.{HasTaken};
 ghost use Rattle.replica.specs.Site.{IsSameSite};
 ghost use Rattle.site_desk.specs.declared.desk.TheConstants.{MOST_PASSES};
 ghost use Rattle.site_links.specs.Linking.{AreLinksOf};
-ghost use Rattle.site_threads.specs.Places.{AtEach};
+ghost use Rattle.launcher.specs.Places.{AtEach};
 ghost use Rattle.server.specs.Listening.{listening_lines};
 ghost use Rattle.server.specs.ServedStores.{HasItsStart, HaveServedEnds};
 

@@ -1,6 +1,6 @@
 use Rattle.std.specs.List.{All}
 use Rattle.std.proofs.Common.{rules, ◌≡◌, ◌∙◌, ◌+◌, Some, arith, length, slice_get, subst, vec_len}
-use Rattle.site_threads.specs.Places.{AtEach}
+use Rattle.launcher.specs.Places.{AtEach}
 use Rattle.stored_threads.specs.declared.stored_site_tasks.StoredSiteTasks.{StoredSiteTasks}
 use Rattle.server.specs.ServedStores.{HasItsStart}
 use Rattle.server.specs.declared.stored_site.StoredSite.{StoredSite}
