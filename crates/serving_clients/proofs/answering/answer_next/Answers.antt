@@ -1,5 +1,5 @@
 use Rattle.serve.proofs.Working.{no_work}
-use Rattle.server.proofs.working.answer_one.Goals as goal
+use Rattle.serving_clients.proofs.answering.answer_next.Goals as goal
 
 -- no client was answered
 pub returns-then-is_stopped : goal.returns-then-is_stopped
