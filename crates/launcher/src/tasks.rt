@@ -1,58 +1,58 @@
 //! The threads of one site: how they are started, and how they are joined.
 ghost use Rattle.std.specs.Prelude.{◌≡◌, ◌≤◌, IfOk, List, MatchOption, OnOk, length, vec_capacity};
 ghost use Rattle.std.specs.Prelude.{vec_len};
-ghost use Rattle.site_desk.specs.Passes.{AreNewPasses};
-ghost use Rattle.site_threads.specs.Places.{AtEach};
-ghost use Rattle.site_threads.specs.Promises.{IsTaskPromisedAt};
-ghost use Rattle.site_threads.specs.Tasks.{AreDone, DoesTasks};
+ghost use Rattle.launcher.specs.Places.{AtEach};
+ghost use Rattle.launcher.specs.Promises.{IsTaskPromisedAt};
+ghost use Rattle.launcher.specs.Tasks.{AreAllDone};
 
+use crate::Workplace;
 use crate::site_fault::SiteFault;
 use crate::start::Start;
-use crate::{TaskEnd, TaskOutput, Workplace};
-use site_desk::{Pass, SiteLedger};
 use std::alloc::Global;
+use std::marker::PhantomData;
 use std::snapshot::Snapshot;
 use std::sync::Wait;
 use std::thread::{Promise, PromisedHandle, Scope, Threads};
 
-// The pass of this number comes back. If all sites begin, this task is done by it.
+// What the thread of a task gives back: the task's pass, and its output if all sites begin.
 #[derive(Drop)]
-pub(crate) struct TaskPromise<T> {
-    ordinal: u32,
-    task: Snapshot<T>,
+pub(crate) struct TaskEnd<P, O> {
+    pass: P,
+    output: Option<O>,
 }
 
-impl<L: SiteLedger, T: TaskOutput> Promise<TaskEnd<L, Option<T::Output>>> for TaskPromise<T> {
-    ghost use Rattle.std.specs.Prelude.{◌≡◌, IfSome};
-    ghost use Rattle.site_desk.specs.Passes.{new_pass};
+// If all sites begin, this task is done at its place by this pass.
+#[derive(Drop)]
+pub(crate) struct TaskPromise<S, R, T, P, O, W> {
+    task: Snapshot<T>,
+    pass: Snapshot<P>,
+    place: PhantomData<(S, R, O, W)>,
+}
 
-    ghost kept_by = { λ promise end. (end.pass.ordinal ≡ promise.ordinal)
-        × IfSome end.output (λ output. T.gives promise.task.value L.site L.names
-        (new_pass promise.ordinal) output end.pass) };
+impl<S, R, T, P, O, W: Workplace<S, R, T, P, O>> Promise<TaskEnd<P, O>>
+    for TaskPromise<S, R, T, P, O, W> {
+    ghost use Rattle.std.specs.Prelude.{IfSome};
+
+    ghost kept_by = { λ promise end. IfSome end.output (λ output.
+        W.does promise.task.value promise.pass.value output end.pass) };
 }
 
 // The threads of a site, the last of which does the first task.
-pub(crate) type Workers<L, T> = Vec<
-    PromisedHandle<TaskEnd<L, Option<<T as TaskOutput>::Output>>, TaskPromise<T>>,
+pub(crate) type Workers<S, R, T, P, O, W> = Vec<
+    PromisedHandle<TaskEnd<P, O>, TaskPromise<S, R, T, P, O, W>>,
 >;
 
 // Waits until all threads of all sites run, and does a task at this place by this pass. Gives no
 // output if a thread can't be started.
-fn do_task<
-    L: SiteLedger,
-    R: Wait,
-    S,
-    T: TaskOutput + Drop,
-    W: Workplace<S, R, T, Pass<L>, T::Output>,
->(
+fn do_task<R: Wait, S, T: Drop, P, O, W: Workplace<S, R, T, P, O>>(
     rt: &R,
     alloc: Global,
     start: &Start,
     shared: &S,
     place: &W,
     task: T,
-    pass: Pass<L>,
-) -> TaskEnd<L, Option<T::Output>>
+    pass: P,
+) -> TaskEnd<P, O>
     ensures { MatchOption result.output (result.pass ≡ pass)
         (λ output. W.does task pass output result.pass) }
 {
@@ -72,11 +72,12 @@ fn do_task<
 pub(crate) fn start_tasks<
     's,
     'e: 's,
-    L: SiteLedger + Send + Sync + 's,
     R: Wait + Sync,
     S: Sync,
-    T: TaskOutput + Send + Drop + 's,
-    W: Workplace<S, R, T, Pass<L>, T::Output> + Sync + 's,
+    T: Send + Drop + 's,
+    P: Send + Drop + 's,
+    O: Send + Drop + 's,
+    W: Workplace<S, R, T, P, O> + Sync + 's,
 >(
     scope: &'s Scope<'s, &'e ()>,
     rt: &'s R,
@@ -84,17 +85,16 @@ pub(crate) fn start_tasks<
     start: &'s Start,
     shared: &'s S,
     place: &'s W,
-    passes: Vec<Pass<L>>,
+    passes: Vec<P>,
     tasks: Vec<T>,
-    workers: &mut Workers<L, T>,
+    workers: &mut Workers<S, R, T, P, O, W>,
 ) -> Result<(), SiteFault>
-    requires place { DoesTasks W.does T.gives L.site L.names }
-    requires passes { AreNewPasses (vec_len tasks) passes.items }
+    requires passes { vec_len passes ≡ vec_len tasks }
     requires none { vec_len workers.old ≡ 0 }
     requires room { vec_len tasks ≤ vec_capacity workers.old }
     ensures number { OnOk result (vec_len workers.new ≡ vec_len tasks) }
     ensures promised { OnOk result (AtEach (λ k worker.
-        IsTaskPromisedAt tasks.items k worker.promise) workers.new.items) }
+        IsTaskPromisedAt tasks.items passes.items k worker.promise) workers.new.items) }
 {
     let mut passes = passes;
     let mut tasks = tasks;
@@ -103,10 +103,11 @@ pub(crate) fn start_tasks<
             unreachable!();
         };
         let promise = TaskPromise {
-            ordinal: pass.ordinal(),
             task: Snapshot::of(&task),
+            pass: Snapshot::of(&pass),
+            place: PhantomData,
         };
-        let job = move || -> TaskEnd<L, Option<T::Output>>
+        let job = move || -> TaskEnd<P, O>
             ensures { MatchOption result.output (result.pass ≡ pass)
                 (λ output. W.does task pass output result.pass) }
         { do_task(rt, alloc, start, shared, place, task, pass) };
@@ -126,7 +127,10 @@ pub(crate) fn start_tasks<
 }
 
 // Joins threads whose site doesn't begin, and drops their passes.
-pub(crate) fn end_tasks<L: SiteLedger, R: Threads, T: TaskOutput>(rt: &R, workers: Workers<L, T>) {
+pub(crate) fn end_tasks<R: Threads, S, T, P: Drop, O: Drop, W: Workplace<S, R, T, P, O>>(
+    rt: &R,
+    workers: Workers<S, R, T, P, O, W>,
+) {
     for worker in workers {
         drop(worker.join(rt));
     }
@@ -134,27 +138,28 @@ pub(crate) fn end_tasks<L: SiteLedger, R: Threads, T: TaskOutput>(rt: &R, worker
 
 /// What the threads of a site give back (this project's own).
 #[derive(Drop)]
-pub struct TaskResults<L: SiteLedger, O: Drop> {
+pub struct TaskResults<P: Drop, O: Drop> {
     /// The passes that the tasks were done by, in the order of the tasks.
-    pub passes: Vec<Pass<L>>,
+    pub passes: Vec<P>,
     /// What the tasks gave, in their order.
     pub outputs: Vec<O>,
 }
 
 // Joins the threads of a site, and adds what they give to `results`. A thread that gives no output
 // means that no site begins.
-pub(crate) fn join_tasks<L: SiteLedger, R: Threads, T: TaskOutput>(
+pub(crate) fn join_tasks<R: Threads, S, T, P: Drop, O: Drop, W: Workplace<S, R, T, P, O>>(
     rt: &R,
-    workers: Workers<L, T>,
-    results: TaskResults<L, T::Output>,
-) -> Result<TaskResults<L, T::Output>, SiteFault>
+    workers: Workers<S, R, T, P, O, W>,
+    results: TaskResults<P, O>,
+) -> Result<TaskResults<P, O>, SiteFault>
     requires no_passes { vec_len results.passes ≡ 0 }
     requires no_outputs { vec_len results.outputs ≡ 0 }
     requires passes { vec_len workers ≤ vec_capacity results.passes }
     requires outputs { vec_len workers ≤ vec_capacity results.outputs }
-    ensures done { IfOk result (λ all. (tasks : List T) → length tasks ≡ vec_len workers
-        → AtEach (λ k worker. IsTaskPromisedAt tasks k worker.promise) workers.items
-        → AreDone T.gives L.site L.names tasks all.passes.items all.outputs.items) }
+    ensures done { IfOk result (λ all. (tasks : List T) (old : List P)
+        → length tasks ≡ vec_len workers
+        → AtEach (λ k worker. IsTaskPromisedAt tasks old k worker.promise) workers.items
+        → AreAllDone W.does tasks old all.passes.items all.outputs.items) }
 {
     let TaskResults {
         mut passes,

@@ -1,6 +1,6 @@
 use Rattle.std.proofs.Common.{◌∙◌, sym}
 use Rattle.std.proofs.lemmas.Result.{IfOk-weaker}
-use Rattle.site_threads.proofs.sites.run_all.Goals as goal
+use Rattle.launcher.proofs.sites.run_all.Goals as goal
 
 pub returns-clause-ends : goal.returns-clause-ends
 returns-clause-ends g c = IfOk-weaker c.join_sites.result _ _

@@ -1,8 +1,8 @@
 use Rattle.std.proofs.Common.{◌≡◌, ◌+◌, ◌≤◌, ℕ, List, length, vec_capacity, vec_len}
-use Rattle.site_threads.specs.Ends.{HaveAllEnded}
-use Rattle.site_threads.specs.Places.{AtEach}
-use Rattle.site_threads.specs.Promises.{IsEndPromisedAt}
-use Rattle.site_threads.proofs.sites.join_sites.Given as goal
+use Rattle.launcher.specs.Ends.{HaveAllEnded}
+use Rattle.launcher.specs.Places.{AtEach}
+use Rattle.launcher.specs.Promises.{IsEndPromisedAt}
+use Rattle.launcher.proofs.sites.join_sites.Given as goal
 
 -- the ends so far are as they were promised, and the threads that are left promise the others
 abbrev pub invariant-loop-site : goal.invariant-loop-site

@@ -1,8 +1,8 @@
 use Rattle.std.proofs.Common.{◌≡◌, ◌+◌, arith, length}
-use Rattle.site_threads.specs.Promises.{IsEndPromisedAt}
-use Rattle.site_threads.proofs.PlaceLemmas.{each_pop}
-use Rattle.site_threads.proofs.SiteLemmas.{ended_push}
-use Rattle.site_threads.proofs.sites.join_sites.Goals as goal
+use Rattle.launcher.specs.Promises.{IsEndPromisedAt}
+use Rattle.launcher.proofs.PlaceLemmas.{each_pop}
+use Rattle.launcher.proofs.EndLemmas.{ended_push}
+use Rattle.launcher.proofs.sites.join_sites.Goals as goal
 
 -- the end of the last thread has come
 pub loop-site-preserved : goal.loop-site-preserved

@@ -1,7 +1,7 @@
-use Rattle.std.proofs.Common.{◌≡◌, ◌∙◌, ◌+◌, Some, ap, arith, slice_get, sym, vec_len}
-use Rattle.site_threads.specs.Promises.{IsEndPromisedAt}
-use Rattle.site_threads.proofs.PlaceLemmas.{each_itself, each_pop, each_push}
-use Rattle.site_threads.proofs.sites.start_sites.Goals as goal
+use Rattle.std.proofs.Common.{◌≡◌, ◌∙◌, Some, ap, arith, slice_get, sym, vec_len}
+use Rattle.launcher.specs.Promises.{IsEndPromisedAt}
+use Rattle.launcher.proofs.PlaceLemmas.{each_itself, each_pop, each_push}
+use Rattle.launcher.proofs.sites.start_sites.Goals as goal
 
 -- no thread yet, and all sites are left
 pub loop-site-init : goal.loop-site-init

@@ -1,8 +1,8 @@
 use Rattle.std.specs.List.{All}
 use Rattle.std.proofs.Common.{◌≡◌, ◌+◌, ◌≤◌, Some, slice_get, vec_capacity, vec_len}
-use Rattle.site_threads.specs.Places.{AtEach}
-use Rattle.site_threads.specs.Promises.{IsEndPromisedAt}
-use Rattle.site_threads.proofs.sites.start_sites.Given as goal
+use Rattle.launcher.specs.Places.{AtEach}
+use Rattle.launcher.specs.Promises.{IsEndPromisedAt}
+use Rattle.launcher.proofs.sites.start_sites.Given as goal
 
 -- the sites that are left are the first ones, and the threads promise the others' ends
 abbrev pub invariant-loop-site : goal.invariant-loop-site
