@@ -1,5 +1,5 @@
-//! A desk for the sessions of a site with a store: no reply leaves before the step that it answers for is durable. And what keeps the journal
-//! of a site within its limits, with a store or without.
+//! A desk for the sessions of a site with a store: no reply leaves before the step that it answers for is durable. And what keeps a site's
+//! journal within its limits, with a store or without.
 #![tactic(auto)]
 
 mod stored_pass_desk;
