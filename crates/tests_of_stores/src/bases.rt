@@ -29,7 +29,7 @@ fn assert_fault(rt: &impl Abort, alloc: Global, kind: u32, parts: &[&str], wante
     let read = base_of_row(alloc, site_0(rt), &list, &row);
     drop(row);
     drop(list);
-    assert!(rt; read.err() == Some(wanted));
+    assert!(*rt; read.err() == Some(wanted));
 }
 
 #[test]

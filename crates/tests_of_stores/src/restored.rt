@@ -10,7 +10,7 @@ fn restored(
     alloc: Global,
     rows: Vec<StoredRow>,
 ) -> Result<RestoredSite, StoreFault> {
-    assert!(rt; rows.len() < 9);
+    assert!(*rt; rows.len() < 9);
     let list = sales_list(rt, alloc);
     let made = restore(alloc, site_0(rt), &list, 2, 5, rows.as_slice());
     drop(list);
@@ -39,7 +39,7 @@ fn assert_fault(
     let mut rows = rows_of(rt, alloc, adds);
     rows.push(last).expect(rt, "memory");
     let made = restored(rt, alloc, rows);
-    assert!(rt; made.err() == Some(wanted));
+    assert!(*rt; made.err() == Some(wanted));
 }
 
 #[test]

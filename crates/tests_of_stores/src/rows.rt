@@ -21,11 +21,11 @@ fn assert_row(
     let step = Step { pass: 2, deed };
     let made = row_of_step(alloc, &step).expect(rt, "memory");
     let row = made.expect(rt, "a row");
-    assert!(rt; row.pass() == 2 && row.kind() == kind.number() && row.words() == words);
+    assert!(*rt; row.pass() == 2 && row.kind() == kind.number() && row.words() == words);
     assert_bytes(rt, alloc, row.body(), &[digits]);
     let read = step_of_row(alloc, &row).expect(rt, "a step");
     drop(row);
-    assert!(rt; read.pass == 2 && read.deed.same(&step.deed));
+    assert!(*rt; read.pass == 2 && read.deed.same(&step.deed));
     drop(read);
     drop(step);
 }
@@ -46,7 +46,7 @@ fn assert_no_row(rt: &impl Abort, alloc: Global, deed: StepDeed) {
     let step = Step { pass: 2, deed };
     let made = row_of_step(alloc, &step).expect(rt, "memory");
     drop(step);
-    assert!(rt; made.is_none());
+    assert!(*rt; made.is_none());
     drop(made);
 }
 
@@ -55,7 +55,7 @@ fn assert_fault(rt: &impl Abort, alloc: Global, kind: u32, digits: &str, wanted:
     let row = row(rt, alloc, kind, &[digits]);
     let read = step_of_row(alloc, &row);
     drop(row);
-    assert!(rt; read.err() == Some(wanted));
+    assert!(*rt; read.err() == Some(wanted));
 }
 
 #[test]

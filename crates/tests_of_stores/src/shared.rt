@@ -29,7 +29,7 @@ pub(crate) fn bytes(rt: &impl Abort, alloc: Global, parts: &[&str]) -> Vec<u8> {
 // Asserts what bytes are, written in hexadecimal.
 pub(crate) fn assert_bytes(rt: &impl Abort, alloc: Global, some: &[u8], parts: &[&str]) {
     let want = bytes(rt, alloc, parts);
-    assert!(rt; some == want.as_slice());
+    assert!(*rt; some == want.as_slice());
 }
 
 // A row of pass 2, of this kind, with a body of some parts in hexadecimal.
@@ -78,9 +78,14 @@ pub(crate) fn sales_list(rt: &impl Abort, alloc: Global) -> QueueList {
     QueueList::new(alloc, &[sales(rt)]).expect(rt, "a list")
 }
 
+// Site 0, of the queue `sales`, which knows nothing.
+pub(crate) fn new_site_0(rt: &impl Abort, alloc: Global) -> Replica {
+    Replica::new(alloc, site_0(rt), sales_list(rt, alloc))
+}
+
 // The row of the base of site 0, of the queue `sales`, which knows nothing and was started 3 times.
 pub(crate) fn base_row(rt: &impl Abort, alloc: Global) -> StoredRow {
-    let replica = Replica::new(alloc, site_0(rt), sales_list(rt, alloc));
+    let replica = new_site_0(rt, alloc);
     let row = row_of_base(alloc, &replica, &NAME, 3).expect(rt, "memory");
     drop(replica);
     row

@@ -33,7 +33,7 @@ fn made(rt: &impl Abort, alloc: Global, store: &mut Store) -> bool {
 // A store whose base has the position 5.
 fn new_store(rt: &impl Abort, alloc: Global) -> Store {
     let mut store = blank(rt, alloc);
-    assert!(rt; made(rt, alloc, &mut store));
+    assert!(*rt; made(rt, alloc, &mut store));
     store
 }
 
@@ -50,7 +50,7 @@ fn put(rt: &impl Abort, alloc: Global, store: &mut Store, at: u64, digits: &str)
     requires { at < 100 }
 {
     let row = add_row(rt, alloc, digits);
-    assert!(rt; append(store, at, &row) == Ok(1));
+    assert!(*rt; append(store, at, &row) == Ok(1));
     drop(row);
 }
 
@@ -60,13 +60,13 @@ fn put_two(rt: &impl Abort, alloc: Global, store: &mut Store) {
         add_row(rt, alloc, SECOND_ADD),
         add_row(rt, alloc, THIRD_ADD),
     ];
-    assert!(rt; append_all(store, 7, &rows) == Ok(()));
+    assert!(*rt; append_all(store, 7, &rows) == Ok(()));
     drop(rows);
 }
 
 // Runs a statement.
 fn run(rt: &impl Abort, store: &mut Store, text: &str) {
-    assert!(rt; store.execute(text, &[]).is_ok());
+    assert!(*rt; store.execute(text, &[]).is_ok());
 }
 
 // Asserts the position of the first row, and the kinds of all rows.
@@ -74,9 +74,9 @@ fn assert_rows(rt: &impl Abort, alloc: Global, store: &mut Store, first: u64, ki
     let listed = read_all(alloc, store)
         .expect(rt, "a database")
         .expect(rt, "rows");
-    assert!(rt; listed.first == first && listed.steps.len() == kinds.len());
+    assert!(*rt; listed.first == first && listed.steps.len() == kinds.len());
     for (row, kind) in listed.steps.iter().zip(kinds) {
-        assert!(rt; row.kind() == *kind);
+        assert!(*rt; row.kind() == *kind);
     }
     drop(listed);
 }
@@ -103,8 +103,8 @@ fn fault_of(rt: &impl Abort, alloc: Global, store: &mut Store) -> Option<OpenFau
 // Asserts how often a site was started before, and the position of its next row. It did 3 steps.
 fn assert_resumes(rt: &impl Abort, alloc: Global, store: &mut Store, starts: u64, next: u64) {
     let it = resumed(rt, alloc, store).expect(rt, "a site");
-    assert!(rt; it.next == next && it.site.starts == starts && it.site.name == NAME);
-    assert!(rt; it.site.journal.steps().len() == 3);
+    assert!(*rt; it.next == next && it.site.starts == starts && it.site.name == NAME);
+    assert!(*rt; it.site.journal.steps().len() == 3);
     drop(it);
 }
 
@@ -147,7 +147,7 @@ fn an_open_transaction_is_refused(rt: HostRuntime) {
 // Asserts whether a database has no table, and whether it has the table of steps alone.
 fn assert_shape(rt: &impl Abort, store: &Store, is_blank: bool, is_store: bool) {
     let schema = store.schema();
-    assert!(rt; is_blank_schema(schema) == is_blank && is_step_schema(schema) == is_store);
+    assert!(*rt; is_blank_schema(schema) == is_blank && is_step_schema(schema) == is_store);
 }
 
 #[test]

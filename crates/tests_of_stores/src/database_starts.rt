@@ -1,5 +1,6 @@
 //! Tests of a site that goes on over its store.
-use crate::sites::{NAME, base_row, database, queues, replace, resumed, save, site, worked};
+use crate::databases::{NAME, base_row, database, replace, resumed, save, site, worked};
+use crate::shared::sales_list;
 use replica::Replica;
 use site_store::{OpenFault, resume};
 use sqlite::Connection;
@@ -13,7 +14,7 @@ use stored_desk::StepStore;
 fn assert_same(rt: &impl Abort, alloc: Global, one: &Replica, other: &Replica) {
     let row = base_row(rt, alloc, one);
     let same = base_row(rt, alloc, other);
-    assert!(rt; row.body() == same.body());
+    assert!(*rt; row.body() == same.body());
     drop(row);
     drop(same);
 }
@@ -39,17 +40,17 @@ fn a_new_base_has_the_name_and_counts_the_starts(rt: HostRuntime) {
     let (mut store, replica) = resumed(&rt, alloc, store.into_connection());
     let journal = worked(&rt, alloc, replica);
     save(&rt, &mut store, journal.steps());
-    assert!(&rt; store.since_base().rows > 0 && store.since_base().bytes > 0);
+    assert!(rt; store.since_base().rows > 0 && store.since_base().bytes > 0);
     replace(&rt, &mut store, journal.replica());
-    assert!(&rt; store.since_base().rows == 0 && store.since_base().bytes == 0);
+    assert!(rt; store.since_base().rows == 0 && store.since_base().bytes == 0);
     let mut conn = store.into_connection();
-    let list = queues(&rt, alloc);
+    let list = sales_list(&rt, alloc);
     let next = resume(alloc, &mut conn, site(&rt), &list, 10)
         .ok()
         .expect(&rt, "a store");
     drop(conn);
     drop(list);
-    assert!(&rt; next.site.starts == 2 && next.site.name == NAME && next.next == 13);
+    assert!(rt; next.site.starts == 2 && next.site.name == NAME && next.next == 13);
     assert_same(&rt, alloc, journal.replica(), next.site.journal.replica());
     drop(journal);
     drop(next);
@@ -59,8 +60,8 @@ fn a_new_base_has_the_name_and_counts_the_starts(rt: HostRuntime) {
 fn a_database_without_the_table_is_no_store(rt: HostRuntime) {
     let alloc = rt.alloc();
     let conn = Connection::open_in_memory(alloc).expect(&rt, "memory");
-    let list = queues(&rt, alloc);
+    let list = sales_list(&rt, alloc);
     let refused = StepDatabase::resume(alloc, conn, site(&rt), &list, 10);
     drop(list);
-    assert!(&rt; refused.err() == Some(OpenFault::NoStore));
+    assert!(rt; refused.err() == Some(OpenFault::NoStore));
 }

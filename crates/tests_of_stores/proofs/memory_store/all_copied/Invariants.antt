@@ -1,5 +1,5 @@
 use Rattle.std.specs.Prelude.{◌≡◌, take}
-use Rattle.tests_of_stored_desks.proofs.memory_store.all_copied.Given as goal
+use Rattle.tests_of_stores.proofs.memory_store.all_copied.Given as goal
 
 -- the steps so far were copied
 abbrev pub invariant-loop-step : goal.invariant-loop-step

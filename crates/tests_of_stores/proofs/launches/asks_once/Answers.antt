@@ -1,6 +1,6 @@
 use Rattle.std.proofs.Common.{ap, ⊎_elim}
 use Rattle.site_desk.specs.Passes.{PassState}
-use Rattle.tests_of_stored_desks.proofs.launches.asks_once.Goals as goal
+use Rattle.tests_of_stores.proofs.launches.asks_once.Goals as goal
 
 -- the pass is as before, or has done a step
 pub returns-in-Err : goal.returns-in-Err

@@ -1,4 +1,4 @@
-//! What is asserted of desks with a store that have two passes.
+//! What is asserted of desks with a store.
 use crate::asks::{add, status};
 use crate::memory_store::MemoryStore;
 use serve::Desk as SessionDesk;
@@ -8,8 +8,6 @@ use status_report::{Answer, Ask};
 use std::alloc::Global;
 use std::process::Abort;
 use std::sync::Wait;
-use std::thread;
-use std::thread::Threads;
 use stored_desk::{CommitFault, Growth, SavedSteps, Settled, StoredDesk, StoredLedger, StoredPort};
 use stored_pass_desk::StoredPassDesk;
 
@@ -42,11 +40,11 @@ fn assert_steps<L: StoredLedger>(
     commits_left: u32,
 ) {
     let store = saved.into_store();
-    assert!(rt; store.steps.len() == steps && store.commits_left == commits_left);
+    assert!(*rt; store.steps.len() == steps && store.commits_left == commits_left);
     drop(store);
 }
 
-// At which position a settled receipt is found among the steps that a desk has saved.
+// The position of a settled receipt among the steps that a desk has saved.
 fn position_in<L: StoredLedger, R: Abort + Wait>(
     rt: &R,
     saved: &mut SavedSteps<MemoryStore, L>,
@@ -68,7 +66,7 @@ fn assert_saved<L: StoredLedger, R: Abort + Wait>(
     commits_left: u32,
 ) {
     let mut saved = saved(rt, desk);
-    assert!(rt; position_in(rt, &mut saved, settled) == position);
+    assert!(*rt; position_in(rt, &mut saved, settled) == position);
     assert_steps(rt, saved, steps, commits_left);
 }
 
@@ -87,74 +85,66 @@ pub(crate) fn assert_stops<L: StoredLedger, R: Abort + Wait>(
     rt: &R,
     alloc: Global,
     desk: Desk<L>,
-    pass: &mut Pass<L>,
+    pass: Pass<L>,
 ) {
-    let first = added(rt, &desk, pass);
+    let mut pass = pass;
+    let first = added(rt, &desk, &mut pass);
     let ask = status(alloc);
     for _ in 0..2 {
-        assert!(rt; fault_of(rt, &desk, pass, &ask) == Some(DeskFault::Unsaved));
-        assert!(rt; pass.seen() == 2);
+        assert!(*rt; fault_of(rt, &desk, &mut pass, &ask) == Some(DeskFault::Unsaved));
+        assert!(*rt; pass.seen() == 2);
     }
     drop(ask);
-    assert!(rt; desk.fault(rt) == Some(CommitFault::Full));
+    drop(pass);
+    assert!(*rt; desk.fault(rt) == Some(CommitFault::Full));
     assert_saved(rt, desk, first, 0, 1, 0);
 }
 
-// Two threads add an interface each.
-pub(crate) fn assert_groups<L: StoredLedger + Send + Sync, R: Abort + Threads + Wait + Sync>(
-    rt: &R,
-    desk: Desk<L>,
-    first: &mut Pass<L>,
-    second: &mut Pass<L>,
-) {
-    let lent = &desk;
-    let (one, other) = thread::join(
-        rt,
-        move || added(rt, lent, first),
-        move || added(rt, lent, second),
-    );
-    let mut saved = saved(rt, desk);
-    let one = position_in(rt, &mut saved, one);
-    let other = position_in(rt, &mut saved, other);
-    drop(saved);
-    assert!(rt; one < 2 && other < 2 && one != other);
-}
-
-// The bytes of the frame of a receipt.
-fn frame_of(rt: &impl Abort, receipt: Receipt) -> Vec<u8> {
-    match receipt.deed {
-        StepDeed::Whole(bytes) => bytes.into_vec(),
+// A copy of the frame of a receipt of a whole.
+fn frame_of(rt: &impl Abort, alloc: Global, receipt: &Receipt) -> Vec<u8> {
+    match &receipt.deed {
+        StepDeed::Whole(bytes) => Vec::from_slice(alloc, bytes.as_slice()).expect(rt, "memory"),
         _ => rt.panic("no frame"),
     }
 }
 
 // A site puts all that it knows into a frame, and takes it.
-fn take_whole<L: StoredLedger, R: Abort + Wait>(rt: &R, desk: &Desk<L>, pass: &mut Pass<L>) {
+fn take_whole<L: StoredLedger, R: Abort + Wait>(
+    rt: &R,
+    alloc: Global,
+    desk: &Desk<L>,
+    pass: &mut Pass<L>,
+) {
     let whole = desk.whole(rt, pass).ok().expect(rt, "a receipt");
-    let bytes = frame_of(rt, whole.into_receipt());
-    let taken = desk.take(rt, pass, bytes).ok();
-    drop(taken.expect(rt, "a receipt"));
+    let whole = whole.into_receipt();
+    let bytes = frame_of(rt, alloc, &whole);
+    drop(whole);
+    let taken = desk.take(rt, pass, bytes).ok().expect(rt, "a receipt");
+    drop(taken);
 }
 
 // Steps are saved, and dropped of the journal once, and of the store once.
 fn assert_drops<L: StoredLedger, R: Abort + Wait>(rt: &R, desk: &Desk<L>) {
     let most = Growth { rows: 1, bytes: 0 };
-    assert!(rt; desk.settle_all(rt).is_ok());
-    assert!(rt; desk.checkpoint_above(rt, 0) == Ok(true));
-    assert!(rt; desk.checkpoint_above(rt, 0) == Ok(false));
-    assert!(rt; desk.replace_base_above(rt, most) == Ok(true));
-    assert!(rt; desk.replace_base_above(rt, most) == Ok(false));
+    assert!(*rt; desk.settle_all(rt).is_ok());
+    assert!(*rt; desk.checkpoint_above(rt, 0) == Ok(true));
+    assert!(*rt; desk.checkpoint_above(rt, 0) == Ok(false));
+    assert!(*rt; desk.replace_base_above(rt, most) == Ok(true));
+    assert!(*rt; desk.replace_base_above(rt, most) == Ok(false));
 }
 
 // A take is saved with a later commit, and then the site as the store's base.
 pub(crate) fn assert_saves<L: StoredLedger, R: Abort + Wait>(
     rt: &R,
+    alloc: Global,
     desk: Desk<L>,
-    pass: &mut Pass<L>,
+    pass: Pass<L>,
 ) {
-    take_whole(rt, &desk, pass);
+    let mut pass = pass;
+    take_whole(rt, alloc, &desk, &mut pass);
     assert_drops(rt, &desk);
-    let cut = desk.cut(rt, pass).ok().expect(rt, "a receipt");
+    let cut = desk.cut(rt, &mut pass).ok().expect(rt, "a receipt");
+    drop(pass);
     assert_saved(rt, desk, cut, 2, 3, 0);
 }
 
@@ -162,22 +152,27 @@ pub(crate) fn assert_saves<L: StoredLedger, R: Abort + Wait>(
 pub(crate) fn assert_goes_on<L: StoredLedger, R: Abort + Wait>(
     rt: &R,
     desk: Desk<L>,
-    pass: &mut Pass<L>,
+    pass: Pass<L>,
 ) {
-    assert!(rt; desk.replace_base(rt) == Err(DeskFault::Memory));
-    assert!(rt; desk.fault(rt).is_none());
-    let first = added(rt, &desk, pass);
+    assert!(*rt; desk.replace_base(rt) == Err(DeskFault::Memory));
+    assert!(*rt; desk.fault(rt).is_none());
+    let mut pass = pass;
+    let first = added(rt, &desk, &mut pass);
+    drop(pass);
     assert_saved(rt, desk, first, 0, 1, 0);
 }
 
 // A port takes its own frame of all that its site knows.
 fn assert_takes<L: StoredLedger, R: Abort + Wait>(
     rt: &R,
+    alloc: Global,
     port: &mut StoredPort<'_, MemoryStore, L>,
 ) {
     let whole = port.whole(rt).ok().expect(rt, "a receipt");
-    let taken = port.take(rt, frame_of(rt, whole)).ok();
-    drop(taken.expect(rt, "a receipt"));
+    let bytes = frame_of(rt, alloc, &whole);
+    drop(whole);
+    let taken = port.take(rt, bytes).ok().expect(rt, "a receipt");
+    drop(taken);
 }
 
 // A port whose site has no change cuts no frame.
@@ -186,20 +181,23 @@ fn assert_cuts<L: StoredLedger, R: Abort + Wait>(
     port: &mut StoredPort<'_, MemoryStore, L>,
 ) {
     let cut = port.cut(rt).ok().expect(rt, "a receipt");
-    assert!(rt; matches!(cut.deed, StepDeed::Cut(None)));
+    assert!(*rt; matches!(cut.deed, StepDeed::Cut(None)));
     drop(cut);
 }
 
 // The steps of a port are saved, and a take with the next of its frames.
 pub(crate) fn assert_port<L: StoredLedger, R: Abort + Wait>(
     rt: &R,
+    alloc: Global,
     desk: Desk<L>,
-    pass: &mut Pass<L>,
+    pass: Pass<L>,
 ) {
-    let mut port = StoredPort::new(&desk, pass);
-    assert_takes(rt, &mut port);
+    let mut pass = pass;
+    let mut port = StoredPort::new(&desk, &mut pass);
+    assert_takes(rt, alloc, &mut port);
     assert_cuts(rt, &mut port);
     drop(port);
+    drop(pass);
     assert_steps(rt, saved(rt, desk), 3, 0);
 }
 
@@ -210,7 +208,7 @@ fn assert_adds<L: StoredLedger, R: Abort + Wait>(
     interface: &[u8],
 ) {
     let answered = sessions.ask(rt, add(rt, interface));
-    assert!(rt; matches!(answered, Ok(Answer::Done)));
+    assert!(*rt; matches!(answered, Ok(Answer::Done)));
     drop(answered);
 }
 
@@ -221,7 +219,7 @@ pub(crate) fn assert_fills<L: StoredLedger, R: Abort + Wait>(rt: &R, desk: Desk<
     assert_adds(rt, &mut sessions, b"SIP/2");
     assert_adds(rt, &mut sessions, b"SIP/3");
     let pass = sessions.into_pass();
-    assert!(rt; pass.seen() == 3);
+    assert!(*rt; pass.seen() == 3);
     drop(pass);
     assert_steps(rt, saved(rt, desk), 3, 0);
 }

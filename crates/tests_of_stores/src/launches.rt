@@ -1,8 +1,9 @@
 //! A site with a store that is launched with two tasks.
 ghost use Rattle.std.specs.Prelude.{◌≡◌};
 
-use crate::asks::{add, copied, site_0};
+use crate::asks::{add, copied};
 use crate::memory_store::MemoryStore;
+use crate::shared::new_site_0;
 use site_desk::Pass;
 use status_report::Ask;
 use std::alloc::Global;
@@ -74,7 +75,7 @@ fn launched<R: Abort + Threads + Wait + Sync>(
     tasks.push(AskOnce { asked: first }).expect(rt, "memory");
     let second = add(rt, b"SIP/2");
     tasks.push(AskOnce { asked: second }).expect(rt, "memory");
-    let replica = site_0(rt, alloc);
+    let replica = new_site_0(rt, alloc);
     let store = MemoryStore::new(alloc, copied(rt, &replica), commits, true);
     let mut sites = Vec::new(alloc);
     let site = StoredSiteTasks {

@@ -1,11 +1,9 @@
-//! Tests of desks with a store that have two passes.
+//! Tests of desks with a store.
 ghost use Rattle.std.specs.Prelude.{◌≡◌};
 ghost use Rattle.site_journal.specs.Journals.{IsOfSite};
 
 use crate::asks::{base_of, journal_of};
-use crate::desks::{
-    assert_fills, assert_goes_on, assert_groups, assert_port, assert_saves, assert_stops,
-};
+use crate::desks::{assert_fills, assert_goes_on, assert_port, assert_saves, assert_stops};
 use crate::memory_store::MemoryStore;
 use site_desk::{Pass, SiteDesk};
 use site_journal::Journaled;
@@ -15,14 +13,12 @@ use std::process::Abort;
 use std::sync::Wait;
 use std::sync::ledger::Blank;
 use std::test::*;
-use std::thread::Threads;
 use stored_desk::{NewHistory, NewMark, StoredDesk, StoredLedger};
 
 // What is asserted of a desk.
 #[derive(Clone, Copy)]
 enum Trial {
     Stops,
-    Groups,
     Saves,
     GoesOn,
     Port,
@@ -34,7 +30,7 @@ impl Trial {
     fn commits(self) -> u32 {
         match self {
             Trial::Stops => 1,
-            Trial::Groups | Trial::GoesOn | Trial::Port => 2,
+            Trial::GoesOn | Trial::Port => 2,
             Trial::Saves => 6,
             Trial::Fills => 5,
         }
@@ -49,35 +45,25 @@ impl Trial {
     }
 }
 
-// Asserts what is tried of a desk and its two passes.
-fn assert_trial<L: StoredLedger + Send + Sync, R: Abort + Threads + Wait + Sync>(
+// Asserts what is tried of a desk and its pass.
+fn assert_trial<L: StoredLedger, R: Abort + Wait>(
     rt: &R,
     alloc: Global,
     desk: StoredDesk<MemoryStore, L>,
-    first: Pass<L>,
-    second: Pass<L>,
+    pass: Pass<L>,
     trial: Trial,
 ) {
-    let mut first = first;
-    let mut second = second;
     match trial {
-        Trial::Fills => {
-            drop(second);
-            assert_fills(rt, desk, first);
-            return;
-        }
-        Trial::Stops => assert_stops(rt, alloc, desk, &mut first),
-        Trial::Groups => assert_groups(rt, desk, &mut first, &mut second),
-        Trial::Saves => assert_saves(rt, desk, &mut first),
-        Trial::GoesOn => assert_goes_on(rt, desk, &mut first),
-        Trial::Port => assert_port(rt, desk, &mut first),
+        Trial::Stops => assert_stops(rt, alloc, desk, pass),
+        Trial::Saves => assert_saves(rt, alloc, desk, pass),
+        Trial::GoesOn => assert_goes_on(rt, desk, pass),
+        Trial::Port => assert_port(rt, alloc, desk, pass),
+        Trial::Fills => assert_fills(rt, desk, pass),
     }
-    drop(first);
-    drop(second);
 }
 
 // Makes a desk of a journal, over a store that takes a number of commits, and asserts what is tried of it.
-fn assert_holds<L: StoredLedger + Send + Sync, R: Abort + Threads + Wait + Sync>(
+fn assert_holds<L: StoredLedger, R: Abort + Wait>(
     rt: &R,
     alloc: Global,
     blank: Blank,
@@ -88,7 +74,7 @@ fn assert_holds<L: StoredLedger + Send + Sync, R: Abort + Threads + Wait + Sync>
 )
     requires name { blank.name ≡ L.name }
     requires ledger { blank.parts ≡ L.parts }
-    requires two { blank.parts ≡ 2 }
+    requires one { blank.parts ≡ 1 }
     requires begun { journal.count ≡ 0 }
     requires site { IsOfSite L.site L.names journal }
     requires limit { journal.limit ≡ L.limit }
@@ -97,26 +83,25 @@ fn assert_holds<L: StoredLedger + Send + Sync, R: Abort + Threads + Wait + Sync>
     requires mark { mark ≡ L.mark }
 {
     let base = base_of(rt, &journal);
-    let made = SiteDesk::<L>::new(alloc, blank, journal, 2).ok();
+    let made = SiteDesk::<L>::new(alloc, blank, journal, 1).ok();
     let (desk, mut passes) = made.expect(rt, "memory");
     let takes_base = !matches!(trial, Trial::GoesOn);
     let store = MemoryStore::new(alloc, base, trial.commits(), takes_base);
     let desk = StoredDesk::new(desk, store, history, mark).ok();
     let desk = desk.expect(rt, "a new desk");
-    let second = passes.pop().expect(rt, "a pass");
-    let first = passes.pop().expect(rt, "a pass");
+    let pass = passes.pop().expect(rt, "a pass");
     drop(passes);
-    assert_trial(rt, alloc, desk, first, second, trial);
+    assert_trial(rt, alloc, desk, pass, trial);
 }
 
 // Asserts what is tried of the desk of site 0.
-fn assert_of<R: Abort + Threads + Wait + Sync>(rt: &R, alloc: Global, trial: Trial) {
+fn assert_of<R: Abort + Wait>(rt: &R, alloc: Global, trial: Trial) {
     let journal = journal_of(rt, alloc, trial.limit());
     let mark = NewMark::new(alloc).expect(rt, "memory");
     assert_holds::<Brand, R>(
         rt,
         alloc,
-        Blank::new(2),
+        Blank::new(1),
         journal,
         NewHistory::new(),
         mark,
@@ -127,11 +112,6 @@ fn assert_of<R: Abort + Threads + Wait + Sync>(rt: &R, alloc: Global, trial: Tri
 #[test]
 fn after_a_failed_commit_no_receipt_is_answered(rt: HostRuntime) {
     assert_of(&rt, rt.alloc(), Trial::Stops);
-}
-
-#[test]
-fn receipts_of_two_threads_are_saved(rt: HostRuntime) {
-    assert_of(&rt, rt.alloc(), Trial::Groups);
 }
 
 #[test]

@@ -1,6 +1,6 @@
 use Rattle.std.proofs.Common.{subst, sym}
 use Rattle.replica.specs.Site.{IsSameSite, SiteState}
-use Rattle.tests_of_stored_desks.proofs.trials.assert_holds.Goals as goal
+use Rattle.tests_of_stores.proofs.desk_trials.assert_holds.Goals as goal
 
 pub new-requires-2-clause-begun : goal.new-requires-2-clause-begun
 new-requires-2-clause-begun g c = subst (λ (s : SiteState). IsSameSite s g.L.SiteLedger.base) (sym c.new-store.ensures.base)

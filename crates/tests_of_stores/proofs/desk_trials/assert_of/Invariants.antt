@@ -1,4 +1,4 @@
-use Rattle.tests_of_stored_desks.proofs.trials.assert_of.Given as goal
+use Rattle.tests_of_stores.proofs.desk_trials.assert_of.Given as goal
 
 abbrev pub ghosts-assert_holds-L-Ledger : goal.ghosts-assert_holds-L-Ledger
 ghosts-assert_holds-L-Ledger g a = record { name = a.blank.name; parts = a.blank.parts }

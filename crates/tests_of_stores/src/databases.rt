@@ -1,6 +1,8 @@
 //! A site in a database in memory, and what it does.
-use dots::{Interface, Label, Penalty, QueueName, SiteId, Text80};
-use replica::{Command, QueueList, Replica};
+use crate::asks::add;
+use crate::shared::sales_list;
+use dots::SiteId;
+use replica::Replica;
 use site_journal::{Journaled, Step};
 use site_store::create;
 use sqlite::{Connection, MemStore};
@@ -20,14 +22,6 @@ pub(crate) fn site(rt: &impl Abort) -> SiteId {
     SiteId::new(3).expect(rt, "a site")
 }
 
-fn sales(rt: &impl Abort) -> QueueName {
-    QueueName::new(b"sales").expect(rt, "a name")
-}
-
-pub(crate) fn queues(rt: &impl Abort, alloc: Global) -> QueueList {
-    QueueList::new(alloc, &[sales(rt)]).expect(rt, "a list")
-}
-
 // The row of the base of a site, which names the store and counts no start.
 pub(crate) fn base_row(rt: &impl Abort, alloc: Global, replica: &Replica) -> StoredRow {
     row_of_base(alloc, replica, &NAME, 0).expect(rt, "memory")
@@ -35,11 +29,11 @@ pub(crate) fn base_row(rt: &impl Abort, alloc: Global, replica: &Replica) -> Sto
 
 // A database whose one row, at position 5, is the base of a site that knows nothing.
 pub(crate) fn database(rt: &impl Abort, alloc: Global) -> Connection<MemStore> {
-    let replica = Replica::new(alloc, site(rt), queues(rt, alloc));
+    let replica = Replica::new(alloc, site(rt), sales_list(rt, alloc));
     let row = base_row(rt, alloc, &replica);
     drop(replica);
     let mut conn = Connection::open_in_memory(alloc).expect(rt, "memory");
-    assert!(rt; create(&mut conn, 5, &row) == Ok(true));
+    assert!(*rt; create(&mut conn, 5, &row) == Ok(true));
     drop(row);
     conn
 }
@@ -50,27 +44,13 @@ pub(crate) fn resumed(
     alloc: Global,
     conn: Connection<MemStore>,
 ) -> (Database, Replica) {
-    let list = queues(rt, alloc);
+    let list = sales_list(rt, alloc);
     let resumed = StepDatabase::resume(alloc, conn, site(rt), &list, 10);
     drop(list);
     let (store, journal) = resumed.ok().expect(rt, "a store");
     let replica = journal.replica().copy().expect(rt, "memory");
     drop(journal);
     (store, replica)
-}
-
-// Adds a member to the queue.
-fn add(rt: &impl Abort, interface: &[u8]) -> Ask {
-    Ask::Command(Command::Add {
-        queue: sales(rt),
-        interface: Interface::new(interface).expect(rt, "an interface"),
-        penalty: Penalty::new(0).expect(rt, "a penalty"),
-        paused: false,
-        label: Label {
-            name: Text80::empty(),
-            state: Text80::empty(),
-        },
-    })
 }
 
 // Asks a site by pass 2.
@@ -94,12 +74,12 @@ pub(crate) fn worked(rt: &impl Abort, alloc: Global, replica: Replica) -> Journa
 // Saves steps in one commit.
 pub(crate) fn save(rt: &impl Abort, store: &mut Database, steps: &[Step]) {
     let group = store.group(steps).expect(rt, "memory");
-    assert!(rt; store.commit(group).is_ok());
+    assert!(*rt; store.commit(group).is_ok());
 }
 
 // Puts a site in the place of all steps of its store.
 pub(crate) fn replace(rt: &impl Abort, store: &mut Database, site: &Replica) {
     let copy = site.copy().expect(rt, "memory");
     let base = store.base(copy).expect(rt, "memory");
-    assert!(rt; store.replace_base(base).is_ok());
+    assert!(*rt; store.replace_base(base).is_ok());
 }

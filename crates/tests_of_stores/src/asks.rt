@@ -3,16 +3,13 @@ ghost use Rattle.std.specs.Prelude.{◌≡◌};
 ghost use Rattle.replica.specs.Site.{IsSameSite};
 ghost use Rattle.site_journal.specs.Journals.{IsOfSite};
 
-use dots::{Bytes, Interface, Label, Penalty, QueueName, SiteId, Text80};
-use replica::{Command, QueueList, Replica};
+use crate::shared::{new_site_0, sales};
+use dots::{Bytes, Interface, Label, Penalty, Text80};
+use replica::{Command, Replica};
 use site_journal::Journaled;
 use status_report::{Ask, StatusRequest};
 use std::alloc::Global;
 use std::process::Abort;
-
-fn sales(rt: &impl Abort) -> QueueName {
-    QueueName::new(b"sales").expect(rt, "a name")
-}
 
 // Adds a member to the queue `sales`.
 pub(crate) fn add(rt: &impl Abort, interface: &[u8]) -> Ask {
@@ -37,19 +34,12 @@ pub(crate) fn status(alloc: Global) -> Ask {
     })
 }
 
-// Site 0, of the queue `sales`, which knows nothing.
-pub(crate) fn site_0(rt: &impl Abort, alloc: Global) -> Replica {
-    let site = SiteId::new(0).expect(rt, "a site");
-    let list = QueueList::new(alloc, &[sales(rt)]).expect(rt, "a list");
-    Replica::new(alloc, site, list)
-}
-
 // The journal of site 0, of the queue `sales`, which knows nothing. Its limit is `limit` steps.
 pub(crate) fn journal_of(rt: &impl Abort, alloc: Global, limit: u32) -> Journaled
     ensures begun { result.count ≡ 0 }
     ensures site { IsOfSite result.base.site result.base.names result }
 {
-    match Journaled::new(alloc, site_0(rt, alloc), limit.clamp(1, 100)) {
+    match Journaled::new(alloc, new_site_0(rt, alloc), limit.clamp(1, 100)) {
         Ok(journal) => journal,
         Err(_) => rt.panic("memory"),
     }
