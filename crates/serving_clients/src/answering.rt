@@ -3,8 +3,9 @@ ghost use Rattle.std.specs.Prelude.{◌≡◌};
 ghost use Rattle.serve.specs.Desks.{HasWorked};
 ghost use Rattle.serving_clients.specs.Answering.{HasAnsweredClients};
 
+use crate::accepting::accept;
 use crate::client_log::ClientEvent;
-use crate::{ClientLog, Clients, accept, answer_client};
+use crate::{ClientLog, Clients, answer_client};
 use dots::Memory;
 use serve::Desk;
 use std::alloc::Global;
@@ -65,14 +66,11 @@ fn answer_at_a_place<R: Wait + Clock, D: Desk<R>>(
 fn answer_next<R: Wait + Clock, D: Desk<R>>(rt: &R, alloc: Global, clients: &Clients, desk: &mut D)
     ensures { HasWorked D.answers D.refuses desk.old desk.new }
 {
-    let events = clients.events();
-    let (stream, peer) = accept(rt, alloc, events, clients.number, &clients.listener);
-    if clients.is_stopped(rt) {
-        drop(stream);
+    let Some((stream, peer)) = accept(rt, alloc, clients) else {
         return;
-    }
+    };
     let is_verbose = clients.settings.is_verbose;
-    let log = ClientLog::new(alloc, events, clients.number, peer, is_verbose);
+    let log = ClientLog::new(alloc, clients.events(), clients.number, peer, is_verbose);
     answer_at_a_place(rt, alloc, clients, &log, stream, desk);
 }
 

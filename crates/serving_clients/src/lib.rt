@@ -1,8 +1,8 @@
 //! Manager sessions of clients over TCP, at any desk.
 //!
-//! [`accept`] waits for a client's connection, and [`answer_client`] serves it to the end of its session, within the times of its
-//! [`SessionSettings`]. A client that doesn't log in, sends nothing, or reads too little loses its place after these times.
-//! [`answer_clients`] does so for one of the [`Clients`] of a site after another. [`Clients::stop`] ends that.
+//! [`answer_clients`] waits for the [`Clients`] of a site and serves one after another; [`Clients::stop`] ends that. [`answer_client`]
+//! serves one to the end of its session, within the times of its [`SessionSettings`]: a client that doesn't log in, sends nothing, or reads
+//! too little loses its place after these times.
 #![tactic(auto)]
 
 mod accepting;
@@ -20,7 +20,6 @@ mod sessions;
 mod tickets;
 mod timed_read;
 
-pub use accepting::accept;
 pub use answering::answer_clients;
 pub use client::answer_client;
 pub use client_log::ClientLog;
