@@ -286,12 +286,12 @@ pub fn serve_sites<
     // The journals stand in the order of their sites.
     ensures each { IfOk result (λ journals.
         AtEach (λ site journal. IsServedJournal site list.now journal) journals.items) }
-    ensures told { OnOk result (Appends (W.taken log.old) (W.taken log.new)
+    ensures written { OnOk result (Appends (W.taken log.old) (W.taken log.new)
         (listening_lines settings.now.address settings.now.port settings.now.sites)) }
     ensures port { (port : ℕ) (reason : Error)
         → IsErrOf result (ServeSitesFault.CannotListen port reason)
         → (settings.now.port ≤ port) × (port < settings.now.port + settings.now.sites) }
-    ensures untold { (port : ℕ) (reason : Error)
+    ensures unwritten { (port : ℕ) (reason : Error)
         → IsErrOf result (ServeSitesFault.CannotListen port reason) → log.new ≡ log.old }
     ensures no_thread { IsErrOf result ServeSitesFault.NoThread
         → Appends (W.taken log.old) (W.taken log.new)

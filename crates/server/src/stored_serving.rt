@@ -292,12 +292,12 @@ where
     // The outputs stand in the order of the starts.
     ensures each { IfOk result (λ ends.
         HaveServedEnds D.holds D.keeps D.begun starts.items ends.items) }
-    ensures told { OnOk result (Appends (W.taken log.old) (W.taken log.new)
+    ensures written { OnOk result (Appends (W.taken log.old) (W.taken log.new)
         (listening_lines settings.now.address settings.now.port settings.now.sites)) }
     ensures port { (port : ℕ) (reason : Error)
         → IsErrOf result (ServeSitesFault.CannotListen port reason)
         → (settings.now.port ≤ port) × (port < settings.now.port + settings.now.sites) }
-    ensures untold { (port : ℕ) (reason : Error)
+    ensures unwritten { (port : ℕ) (reason : Error)
         → IsErrOf result (ServeSitesFault.CannotListen port reason) → log.new ≡ log.old }
     ensures no_thread { IsErrOf result ServeSitesFault.NoThread
         → Appends (W.taken log.old) (W.taken log.new)

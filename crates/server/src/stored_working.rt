@@ -69,8 +69,8 @@ impl TaskOutput for StoredSiteTask {
     ghost gives = { λ task site names old output new. ⊤ };
 }
 
-// Answers the clients of a site by this pass, once it has heard of its peers: if they know changes of the site that its store lacks, it ends
-// before it makes one. Each reply leaves once its step is durable.
+// Answers the clients of a site by this pass, once the site has frames of its peers: if they know changes of the site that its store lacks,
+// it ends before it makes a change. Each reply leaves once its step is durable.
 fn answer_by<
     D: StepStore,
     L: StoredLedger,
@@ -112,8 +112,8 @@ fn log_rollback<R: Wait>(rt: &R, alloc: Global, site: &Site, peer: SiteId, fault
     site.clients.events().add(rt, line);
 }
 
-// Takes the frames of a peer by this pass. It ends early if the site's store fails; or if it lacks what the peer knows of the site, which is
-// logged, and all sites of the server end.
+// Takes the frames of a peer by this pass. It ends early if the site's store fails. If the store lacks what the peer knows of the site it
+// ends too, logs that, and ends all sites of the server.
 fn take_by<D: StepStore, L: StoredLedger, R: Wait>(
     rt: &R,
     alloc: Global,

@@ -120,11 +120,14 @@ fn starts(rt: &impl Abort, alloc: Global, refuses_commands: bool) -> Vec<StoredS
     ensures number { vec_len result ≡ 2 }
     ensures begun { All (λ start. IsSameSite start.store.base start.replica) result.items }
 {
-    let mut starts = Vec::new(alloc);
+    let mut starts = match Vec::with_capacity(alloc, 2) {
+        Ok(starts) => starts,
+        Err(_) => rt.panic("memory"),
+    };
     let first = start(rt, alloc, 0, refuses_commands);
-    starts.push(first).expect(rt, "memory");
+    starts.push_reserved(first);
     let second = start(rt, alloc, 1, false);
-    starts.push(second).expect(rt, "memory");
+    starts.push_reserved(second);
     starts
 }
 
