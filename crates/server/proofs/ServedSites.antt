@@ -4,7 +4,7 @@ use Rattle.std.proofs.lemmas.Option.{get_or_from_slice_get, slice_get-get_or}
 use Rattle.site_desk.specs.Passes.{PassState}
 use Rattle.site_links.specs.declared.linking.SiteLinks.{SiteLinks}
 use Rattle.site_threads.specs.Ends.{HaveEnded}
-use Rattle.site_threads.specs.Places.{AtEach}
+use Rattle.launcher.specs.Places.{AtEach}
 use Rattle.site_threads.specs.declared.site_tasks.SiteOutput.{SiteOutput}
 use Rattle.site_threads.specs.declared.site_tasks.SiteTasks.{SiteTasks}
 use Rattle.server.specs.ServedJournals.{IsServedJournal}

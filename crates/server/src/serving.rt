@@ -8,7 +8,7 @@ ghost use Rattle.ami_text.specs.Devices.{HasTaken};
 ghost use Rattle.replica.specs.Deeds.{IsNew};
 ghost use Rattle.site_links.specs.Linking.{AreLinksOf};
 ghost use Rattle.site_links.specs.declared.linking.SiteLinks.{SiteLinks};
-ghost use Rattle.site_threads.specs.Places.{AtEach};
+ghost use Rattle.launcher.specs.Places.{AtEach};
 ghost use Rattle.server.specs.Listening.{listening_lines};
 ghost use Rattle.server.specs.ServedJournals.{IsServedJournal};
 ghost use Rattle.server.specs.Tasks.{HasItsTasks, tasks_for};
