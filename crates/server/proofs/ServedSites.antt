@@ -14,7 +14,7 @@ use Rattle.server.specs.declared.site.TheConstants.{JOURNAL_STEPS}
 use Rattle.server.specs.declared.working.SiteTask.{SiteTask}
 
 -- a place within a list has an element
-got_within : {E : Type 0} (xs : List E) (k : ℕ) → k < length xs → (x : E) × (slice_get xs k ≡ Some x)
+pub got_within : {E : Type 0} (xs : List E) (k : ℕ) → k < length xs → (x : E) × (slice_get xs k ≡ Some x)
 got_within [] k low = absurd (omega (arith, low))
 got_within (x ∷ xs) zero low = (x, refl)
 got_within (x ∷ xs) (suc k) low = got_within xs k (omega (arith, low))

@@ -4,7 +4,7 @@ use Rattle.serve.proofs.Working.{work_keeps}
 use Rattle.serve.specs.Desks.{EachKeeps, HasWorked}
 use Rattle.status_report.specs.declared.asks.Answer.{Answer}
 use Rattle.status_report.specs.declared.asks.Ask.{Ask}
-use Rattle.server.specs.Answering.{HasAnsweredClients, WorksFor}
+use Rattle.serving_clients.specs.Answering.{HasAnsweredClients, WorksFor}
 
 -- no client
 pub answered_none : {D : Type 0} (Answers : D → Ask → Answer → D → Type 0) (Refuses : D → Ask → D → Type 0) (d : D) → HasAnsweredClients Answers Refuses d d
