@@ -1,4 +1,12 @@
 //! Serves sites over stores, which are files.
+ghost use Rattle.std.specs.List.{All};
+ghost use Rattle.std.specs.Prelude.{◌≡◌, ◌≤◌, [], IfOk, vec_len};
+ghost use Rattle.sqlite.specs.Files.{file_state};
+ghost use Rattle.sqlite.specs.State.{HasCleanDisk};
+ghost use Rattle.replica.specs.Site.{IsSameSite};
+ghost use Rattle.step_database.specs.Databases.{Keeps, Stores};
+ghost use Rattle.server.specs.declared.serving.TheConstants.{MOST_SERVED_SITES};
+
 use crate::failed;
 use crate::serving::{are_in_range, refuse_numbers};
 use ami_text::StdSink;
@@ -48,7 +56,13 @@ pub(crate) fn open_store<R: AllocGlobal + Eprint + Wait>(
     site: SiteId,
     list: &QueueList,
     events: &EventLog,
-) -> Result<OpenedFile<Unknown>, io::Result<Exit>> {
+) -> Result<OpenedFile<Unknown>, io::Result<Exit>>
+    ensures begun { IfOk result (λ it. IsSameSite it.store.origin.begun it.replica) }
+    ensures holds { IfOk result (λ it. HasCleanDisk (file_state it.store.conn)
+        → Stores (file_state it.store.conn) it.store.origin it.store.next []) }
+    ensures keeps { IfOk result (λ it. HasCleanDisk (file_state it.store.conn)
+        → Keeps (file_state it.store.conn) it.store.origin []) }
+{
     match open_site_file(host, path, site, list, MOST_RESTORED_STEPS) {
         Ok(file) => {
             if file.is_new {
@@ -68,7 +82,13 @@ fn start_of<R: AllocGlobal + Eprint + Wait>(
     site: SiteId,
     list: &QueueList,
     events: &EventLog,
-) -> Result<StoredStart<SiteStore>, io::Result<Exit>> {
+) -> Result<StoredStart<SiteStore>, io::Result<Exit>>
+    ensures begun { IfOk result (λ it. IsSameSite it.store.origin.begun it.replica) }
+    ensures holds { IfOk result (λ it. HasCleanDisk (file_state it.store.conn)
+        → Stores (file_state it.store.conn) it.store.origin it.store.next []) }
+    ensures keeps { IfOk result (λ it. HasCleanDisk (file_state it.store.conn)
+        → Keeps (file_state it.store.conn) it.store.origin []) }
+{
     let Ok(path) = file_of_site(rt.alloc(), folder, site) else {
         return Err(failed(rt, OpenFault::Memory));
     };
@@ -85,7 +105,15 @@ fn starts_of<R: AllocGlobal + Eprint + Wait>(
     sites: u16,
     list: &QueueList,
     events: &EventLog,
-) -> Result<Vec<StoredStart<SiteStore>>, io::Result<Exit>> {
+) -> Result<Vec<StoredStart<SiteStore>>, io::Result<Exit>>
+    requires { sites ≤ MOST_SERVED_SITES }
+    ensures number { IfOk result (λ starts. vec_len starts ≡ sites) }
+    ensures begun { IfOk result (λ starts. All (λ it. IsSameSite it.store.origin.begun it.replica) starts.items) }
+    ensures holds { IfOk result (λ starts. All (λ it. HasCleanDisk (file_state it.store.conn)
+        → Stores (file_state it.store.conn) it.store.origin it.store.next []) starts.items) }
+    ensures keeps { IfOk result (λ starts. All (λ it. HasCleanDisk (file_state it.store.conn)
+        → Keeps (file_state it.store.conn) it.store.origin []) starts.items) }
+{
     let mut starts = Vec::new(rt.alloc());
     for number in 0..sites {
         let Some(site) = SiteId::new(number) else {
@@ -99,7 +127,8 @@ fn starts_of<R: AllocGlobal + Eprint + Wait>(
     Ok(starts)
 }
 
-// Serves sites, whose stores are in a folder, until the program is stopped or a store fails.
+// Serves sites, whose stores are in a folder, until the program is stopped. It ends if a store fails or a site was rolled back, and the log has
+// said why.
 pub(crate) fn serve<
     R: AllocGlobal
         + Print

@@ -20,7 +20,6 @@ use site_store::{OpenFault, open, open_new};
 use sqlite::{Alter, Connection, Start, Unknown};
 use std::alloc::Global;
 use std::fs;
-use std::io::ErrorKind;
 use std::random::RandomSource;
 use step_database::StepDatabase;
 use stored_steps::{NAME_BYTES, StoredRow, row_of_base};
@@ -30,6 +29,12 @@ pub fn file_of_site(alloc: Global, folder: &str, site: SiteId) -> Result<String,
     let number = site.number();
     let path = format!(in alloc; "{folder}/site-{number}.db")?;
     Ok(path)
+}
+
+// The name of the log of a file.
+fn log_of(alloc: Global, path: &str) -> Result<String, Memory> {
+    let log = format!(in alloc; "{path}-wal")?;
+    Ok(log)
 }
 
 // The site that goes on over a connection, and its store, which is new or not.
@@ -161,28 +166,52 @@ pub fn new_site_file<S: Start>(
     }
 }
 
-// What stands at a path before a store is opened there.
-#[derive(Clone, Copy)]
-enum Found {
-    Nothing,
-    EmptyFile,
-    Other,
+// Whether no file is at a path.
+fn is_missing(rt: &HostRuntime, path: &str) -> bool {
+    matches!(fs::exists(rt, path), Ok(false))
 }
 
-fn found_at(rt: &HostRuntime, path: &str) -> Found {
+// Whether a file at a path has no bytes.
+fn is_empty(rt: &HostRuntime, path: &str) -> bool {
     match fs::metadata(rt, path) {
-        Ok(found) if found.len() == 0 => Found::EmptyFile,
-        Ok(_) => Found::Other,
-        Err(error) if error.kind() == ErrorKind::NotFound => Found::Nothing,
-        Err(_) => Found::Other,
+        Ok(found) => found.len() == 0,
+        Err(_) => false,
     }
 }
 
-/// The site whose store is the file at a path, with these queues, as `resume_site_file` has it. Where no file is, or one that has pages but no
-/// table, it makes a new site in that file, as `new_site_file` does. It supposes that a torn write leaves each byte of the file old or new.
+// The site whose store is the file at a path, which exists.
+fn open_old_file(
+    rt: &HostRuntime,
+    path: &str,
+    site: SiteId,
+    list: &QueueList,
+    limit: u32,
+) -> Result<OpenedFile<Unknown>, OpenFault>
+    requires some { 1 ≤ limit }
+    requires most { limit ≤ MOST_STEPS }
+    ensures site { IfOk result (λ it. it.replica.site ≡ site) }
+    ensures names { IfOk result (λ it. it.replica.names ≡ list.now) }
+    ensures begun { IfOk result (λ it. IsSameSite it.store.origin.begun it.replica) }
+    ensures holds { IfOk result (λ it. HasCleanDisk (file_state it.store.conn)
+        → Stores (file_state it.store.conn) it.store.origin it.store.next []) }
+    ensures keeps { IfOk result (λ it. HasCleanDisk (file_state it.store.conn)
+        → Keeps (file_state it.store.conn) it.store.origin []) }
+{
+    if is_empty(rt, path) {
+        return Err(OpenFault::NoStore);
+    }
+    match resume_site_file(rt, path, Unknown, site, list, limit) {
+        Err(OpenFault::Blank) => Err(OpenFault::NoStore),
+        other => other,
+    }
+}
+
+/// The site whose store is the file at a path, with these queues, as `resume_site_file` has it. Where neither the file nor its log (`PATH-wal`) is
+/// there, it makes a new site in that file, as `new_site_file` does. It supposes that a torn write leaves each byte of the file old or new.
 ///
-/// Errors, in order: `Open` with `NoStore`, if the file has no bytes: it may have been a store; `Open`, with the errors of
-/// `resume_site_file` except `Blank`; those of `new_site_file`. A file that is refused keeps its rows.
+/// Errors, in order: `Open` with `NoStore`, if only the log is there, or the file has no bytes or no table: it may have been a store, and a new
+/// site of its number would make dots that others have; `Open`, with the errors of `resume_site_file` except `Blank`; those of
+/// `new_site_file`. `Open` with `Memory` may stand in place of each. A store that is refused keeps its rows.
 pub fn open_site_file(
     rt: &HostRuntime,
     path: &str,
@@ -200,14 +229,17 @@ pub fn open_site_file(
     ensures keeps { IfOk result (λ it. HasCleanDisk (file_state it.store.conn)
         → Keeps (file_state it.store.conn) it.store.origin []) }
 {
-    match found_at(rt, path) {
-        Found::Nothing => return new_site_file(rt, path, Unknown, site, list, limit),
-        Found::EmptyFile => return Err(SiteFileFault::Open(OpenFault::NoStore)),
-        Found::Other => {}
+    if !is_missing(rt, path) {
+        return match open_old_file(rt, path, site, list, limit) {
+            Ok(file) => Ok(file),
+            Err(fault) => Err(SiteFileFault::Open(fault)),
+        };
     }
-    match resume_site_file(rt, path, Unknown, site, list, limit) {
-        Ok(file) => Ok(file),
-        Err(OpenFault::Blank) => new_site_file(rt, path, Unknown, site, list, limit),
-        Err(fault) => Err(SiteFileFault::Open(fault)),
+    let Ok(log) = log_of(rt.alloc(), path) else {
+        return Err(SiteFileFault::Open(OpenFault::Memory));
+    };
+    if !is_missing(rt, log.as_str()) {
+        return Err(SiteFileFault::Open(OpenFault::NoStore));
     }
+    new_site_file(rt, path, Unknown, site, list, limit)
 }
