@@ -5,6 +5,7 @@ import hashlib
 import hmac
 import os
 import random
+import re
 import select
 import signal
 import socket
@@ -57,11 +58,12 @@ class Site(Server):
                 client.succeed("QueueAdd", Queue=queue, Interface=it)
 
     def logs(self, text, seconds=PATIENCE):
-        """Needs a line with this text in the log, soon."""
+        """Needs a line in the log, soon: `queue_sites: site N: ` and this text, in which `ADDRESS` is any address and port."""
+        pattern = re.compile(re.escape(f"queue_sites: site {self.number}: {text}\n").replace("ADDRESS", r"\S+").encode())
         ends = time.monotonic() + seconds
-        while text.encode() not in self.logged:
+        while not pattern.search(self.logged):
             need(time.monotonic() < ends, f"site {self.number} doesn't log {text!r}, but {self.logged!r}")
-            self.read_log(lambda logged: text.encode() in logged)
+            self.read_log(pattern.search)
 
     def forget_log(self):
         self.logged = b""
@@ -210,8 +212,8 @@ def three_sites():
         mesh.sites[0].rests()
         for number, it in mesh.sites.items():
             for peer in set(mesh.sites) - {number}:
-                it.logs(f"queue_sites: site {number}: link to site {peer} at 127.0.0.1:{mesh.proxies[number, peer].port}: up")
-                it.logs(f"queue_sites: site {number}: link from site {peer}: up")
+                it.logs(f"link to site {peer} at 127.0.0.1:{mesh.proxies[number, peer].port}: up")
+                it.logs(f"link from site {peer} at ADDRESS: up")
     return f"three sites, equal after {seconds:.1f} s"
 
 
@@ -419,7 +421,7 @@ def a_peer_of_another_program():
         for at in range(len(byte_by_byte)):
             peer.send(byte_by_byte[at:at + 1])
         until_shown(site, 0, b"Location: SIP/8\r\n", 1)
-        site.logs("queue_sites: site 0: link from site 7: up")
+        site.logs("link from site 7 at ADDRESS: up")
         need(b": down" not in site.logged, f"a link to a good peer is down: {site.logged!r}")
     return "a peer of another program"
 
@@ -430,9 +432,10 @@ def hellos_that_are_refused():
         site = mesh.sites[0]
         mesh.sites[1].add("SIP/1")
         mesh.until_equal(1, EQUAL)
-        refused = lambda why: site.logs(f"queue_sites: site 0: a link was refused: hello: {why}", 3)
-        for given, why in ((b"GET / HTTP/1.1\r\nHost: a\r\n\r\n", "another protocol"), (os.urandom(4_000), "another protocol"),
-                           (b"QSLK\x02" + bytes(32), "version 2 of the protocol")):
+        refused = lambda why: site.logs(f"no link from ADDRESS: hello: {why}", 3)
+        # A reason is logged once in a row.
+        for given, why in ((b"GET / HTTP/1.1\r\nHost: a\r\n\r\n", "another protocol"), (b"QSLK\x02" + bytes(32), "version 2 of the protocol"),
+                           (os.urandom(4_000), "another protocol")):
             site.forget_log()
             with socket.create_connection(("127.0.0.1", site.links), PATIENCE) as other:
                 other.sendall(given)
@@ -440,8 +443,8 @@ def hellos_that_are_refused():
         for number, how, verdict, why in (
             (9, {"shared": f"{SHARED}4"}, 6, "wrong secret"),
             (9, {"queues": QUEUES[::-1]}, 2, "other queues"),
-            (9, {"queues": ("sales",)}, 2, "other queues"),
             (64, {}, 1, "no such site number"),
+            (9, {"queues": ("sales",)}, 2, "other queues"),
             (0, {}, 4, "another site has this site's number"),
             (1, {}, 5, "its site number belongs to another store"),
         ):
@@ -470,7 +473,7 @@ def items_that_are_refused():
             peer = dialed(site, number)
             deed(peer)
             need(peer.is_closed(), f"a link isn't ended: {why}")
-            site.logs(f"queue_sites: site 0: link from site {number}: down: {why}", 2)
+            site.logs(f"link from site {number} at ADDRESS: down: {why}", 2)
 
         def altered(peer):
             item = bytearray(peer.tagged(frame_of(peer.number, 1, "SIP/bad")))
@@ -497,7 +500,7 @@ def items_that_are_refused():
         site.forget_log()
         peer = dialed(site, 41)
         peer.socket.close()
-        site.logs("queue_sites: site 0: link from site 41: down: the connection ended", 2)
+        site.logs("link from site 41 at ADDRESS: down: the connection ended", 2)
         need(b"ListItems: 2\r\n" in shown(site), "a site has taken what it has refused")
         need(site.process.poll() is None, "a site has ended")
     return "items that are refused"
@@ -599,7 +602,7 @@ def a_peer_that_reads_nothing(adds=4_000):
             grown = site.memory() - before
             need(slowest < 0.05 + 0.1, f"beside a peer that reads nothing an ask takes {slowest:.3f} seconds")
             need(grown < 64 << 20, f"for a peer that reads nothing a site keeps {grown:,} bytes")
-            site.logs("down: no reply for 4 s", 10)
+            site.logs("link to ADDRESS: down: no reply for 4 s", 10)
             connection.close()
     return f"a peer that reads nothing: the slowest of {adds:,} asks takes {1_000 * slowest:.0f} ms"
 

@@ -13,8 +13,8 @@ import tempfile
 import threading
 import time
 
-from program_tests import Failed, check
-from server_tests import BUILT, GREETING, PATIENCE, SECRET, SETTLED, USER, Server, free_ports, need, shown, until_shown
+from program_tests import Failed, check, read
+from server_tests import BUILT, GREETING, PATIENCE, SECRET, SETTLED, USER, Client, Server, free_ports, need, shown, until_shown
 
 # How many members each owner has at most.
 MEMBERS = 6
@@ -271,10 +271,21 @@ def other_files():
             pass
         refuses(text, 0, "no store")
         need(os.path.getsize(f"{text}/site-0.db") == 0, "an empty file was changed")
+        # Without its log a file has not even a table, and a log without its file is no store either: neither is made anew.
+        half = copied(folder, room, "half")
+        os.remove(f"{half}/site-0.db-wal")
+        content = read(f"{half}/site-0.db")
+        refuses(half, 0, "no store")
+        need(read(f"{half}/site-0.db") == content, "a file without its log was changed")
+        other = copied(folder, room, "other")
+        os.remove(f"{other}/site-0.db")
+        content = read(f"{other}/site-0.db-wal")
+        refuses(other, 0, "no store")
+        need(read(f"{other}/site-0.db-wal") == content and not os.path.exists(f"{other}/site-0.db"), "a log without its file was changed")
         table = f"{room}/table"
         os.mkdir(table)
-        with contextlib.closing(sqlite3.connect(f"{table}/site-0.db")) as other:
-            other.execute("CREATE TABLE note (id INTEGER PRIMARY KEY, title TEXT)")
+        with contextlib.closing(sqlite3.connect(f"{table}/site-0.db")) as notes:
+            notes.execute("CREATE TABLE note (id INTEGER PRIMARY KEY, title TEXT)")
         refuses(table, 0, "no store")
         base = before[0][0]
         refuses(written(f"{room}/version", [(*base[:3], b"\x02" + base[3][1:], base[4])]), 0, "base: another version")
@@ -302,8 +313,7 @@ def damaged_files(flips=20):
         # Many changes, so that the log was copied into the file.
         folder = made(room, 500)
         path = f"{folder}/site-0.db"
-        with open(path, "rb") as file:
-            whole = file.read()
+        whole = read(path)
         need(len(whole) > 4_096, f"the file of a store has {len(whole)} bytes")
         for number in range(flips):
             at, damaged = lot.randrange(len(whole)), f"{room}/flipped-{number}"
@@ -324,6 +334,67 @@ def damaged_files(flips=20):
             texts = [told_of(cut, 0, it) for it in ("damaged file", "no store")]
             need(ran.returncode == 1 and ran.stderr in texts, f"of {length} bytes of its file the status is {ran.returncode}, and it says {ran.stderr!r}")
     return f"{flips} flipped bits, and files that are cut"
+
+
+def damaged_logs(flips=8, adds=30):
+    """Of a log in which a bit was flipped, or that was cut, a site has the changes before that, as SQLite has them, or it is refused."""
+    lot = random.Random(4)
+    with tempfile.TemporaryDirectory() as room:
+        folder = f"{room}/stores"
+        os.mkdir(folder)
+        with stored(folder, 1) as server:
+            with server.logged_in() as client:
+                for number in range(adds):
+                    client.succeed("QueueAdd", Queue="sales", Interface=f"SIP/{number}")
+            stop_new(server, folder)
+        log, counts = read(f"{folder}/site-0.db-wal"), []
+        for number in range(flips):
+            damaged, at = copied(folder, room, f"log-{number}"), lot.randrange(len(log) // 2)
+            with open(f"{damaged}/site-0.db-wal", "wb") as file:
+                file.write(log[:at] + bytes([log[at] ^ 1 << lot.randrange(8)]) + log[at + 1:] if number % 2 else log[:at])
+            server = stored(damaged, 1)
+            if server.wait_until_it_listens():
+                found = members(shown(server))
+                server.stop_silent()
+                need(found == {f"SIP/{it}": 0 for it in range(len(found))}, f"of a damaged log a site has {found!r}")
+                counts.append(len(found))
+            else:
+                told = server.stop()
+                need(server.process.returncode == 1 and told in (told_of(damaged, 0, it) for it in ("damaged file", "no store")), f"a damaged log: {told!r}")
+    return f"{flips} damaged logs, of which {len(counts)} start with {min(counts, default=0)} to {max(counts, default=0)} of {adds} changes"
+
+
+def rolled_back(members_of=3):
+    """A site whose store was lost, or is an older copy, answers no client: all sites end, with status 1 and a line that says why."""
+    with tempfile.TemporaryDirectory() as room:
+        folder = made(room, members_of)
+        older, lost = copied(folder, room, "older"), copied(folder, room, "lost")
+        with stored(folder) as server:
+            with server.logged_in() as client:
+                client.succeed("QueueAdd", Queue="sales", Interface="SIP/later")
+            until_shown(server, 1, b"Location: SIP/later\r\n")
+            server.stop_silent()
+        for it in (older, lost):
+            for file in os.listdir(it):
+                if file.startswith("site-1.db") or it == lost:
+                    os.remove(f"{it}/{file}")
+            for file in os.listdir(folder):
+                if file.startswith("site-1.db"):
+                    shutil.copy(f"{folder}/{file}", it)
+        login = f"Action: Login\r\nUsername: {USER}\r\nSecret: {SECRET}\r\n\r\n"
+        asked = f"{login}Action: QueueAdd\r\nQueue: sales\r\nInterface: SIP/new\r\n\r\n".encode()
+        for it in (older, lost):
+            with stored(it) as server:
+                answers = b""
+                with contextlib.suppress(OSError), Client(server.port) as client:
+                    client.send(asked)
+                    answers = client.rest()
+                need(b"Added interface" not in answers, f"a site that was rolled back answers {answers!r}")
+                need(server.process.wait(PATIENCE) == 1, f"a server with a site that was rolled back ends with status {server.process.returncode}")
+                told = server.stop()
+                line = b"queue_sites: site 0: rolled back: a frame of site 1: not this site's own\n"
+                need(told.count(line) == 1, f"a server with a site that was rolled back logs {told!r}")
+    return "sites that were rolled back: an older copy, and a store that is lost"
 
 
 def files_that_may_not_be_written():
@@ -407,7 +478,7 @@ def greets_with_stores():
 
 def run_all():
     """Runs all tests. Returns lines that report what was run."""
-    tests = [greets_with_stores, kills, new_bases, other_files, damaged_files, files_that_may_not_be_written, full_disks]
+    tests = [greets_with_stores, kills, new_bases, other_files, damaged_files, damaged_logs, rolled_back, files_that_may_not_be_written, full_disks]
     return [test() for test in tests]
 
 
