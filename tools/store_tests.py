@@ -438,7 +438,9 @@ def full_disks(clients=4):
         with small_disk(room, "4k") as disk:
             if not disk:
                 return "no full disk, since this process can't mount a tmpfs"
-            refuses(disk, 0, "database or disk is full")
+            for _ in range(2):
+                refuses(disk, 0, "database or disk is full")
+                need(os.listdir(disk) == [], f"a store that could not be made leaves {os.listdir(disk)!r}")
         with small_disk(room, "1m") as disk:
             with stored(disk, 1) as server:
                 working = Working(owners, lambda it: (server, 0), 0)

@@ -108,7 +108,8 @@ fn starts_of<R: AllocGlobal + Eprint + Wait>(
 ) -> Result<Vec<StoredStart<SiteStore>>, io::Result<Exit>>
     requires { sites ≤ MOST_SERVED_SITES }
     ensures number { IfOk result (λ starts. vec_len starts ≡ sites) }
-    ensures begun { IfOk result (λ starts. All (λ it. IsSameSite it.store.origin.begun it.replica) starts.items) }
+    ensures begun { IfOk result (λ starts.
+        All (λ it. IsSameSite it.store.origin.begun it.replica) starts.items) }
     ensures holds { IfOk result (λ starts. All (λ it. HasCleanDisk (file_state it.store.conn)
         → Stores (file_state it.store.conn) it.store.origin it.store.next []) starts.items) }
     ensures keeps { IfOk result (λ starts. All (λ it. HasCleanDisk (file_state it.store.conn)
@@ -156,9 +157,8 @@ pub(crate) fn serve<
     let mut log = StdSink::new(io::writer(rt));
     match serve_stored_sites(rt, rt.alloc(), settings, starts, None, &mut log, events) {
         Ok(ends) => {
-            let has_failed = ends.iter().any(|end| end.fault.is_some());
             drop(ends);
-            Ok(if has_failed { Exit::Failed } else { Exit::Done })
+            Ok(Exit::Failed)
         }
         Err(fault) => failed(rt, fault),
     }

@@ -179,6 +179,12 @@ fn is_empty(rt: &HostRuntime, path: &str) -> bool {
     }
 }
 
+// Removes the files of a store that could not be made. A failure leaves them, without a table.
+fn remove_files(rt: &HostRuntime, path: &str, log: &str) {
+    let _ = fs::remove_file(rt, path);
+    let _ = fs::remove_file(rt, log);
+}
+
 // The site whose store is the file at a path, which exists.
 fn open_old_file(
     rt: &HostRuntime,
@@ -211,7 +217,8 @@ fn open_old_file(
 ///
 /// Errors, in order: `Open` with `NoStore`, if only the log is there, or the file has no bytes or no table: it may have been a store, and a new
 /// site of its number would make dots that others have; `Open`, with the errors of `resume_site_file` except `Blank`; those of
-/// `new_site_file`. `Open` with `Memory` may stand in place of each. A store that is refused keeps its rows.
+/// `new_site_file`, and if the database failed the new files are removed. `Open` with `Memory` may stand in place of each. A store that is
+/// refused keeps its rows.
 pub fn open_site_file(
     rt: &HostRuntime,
     path: &str,
@@ -241,5 +248,9 @@ pub fn open_site_file(
     if !is_missing(rt, log.as_str()) {
         return Err(SiteFileFault::Open(OpenFault::NoStore));
     }
-    new_site_file(rt, path, Unknown, site, list, limit)
+    let made = new_site_file(rt, path, Unknown, site, list, limit);
+    if let Err(SiteFileFault::Open(OpenFault::Database(_))) = made {
+        remove_files(rt, path, log.as_str());
+    }
+    made
 }
