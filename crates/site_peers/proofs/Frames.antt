@@ -1,8 +1,7 @@
 -- The frames among the items that a link has received.
-use Rattle.std.proofs.Common.{◌≡◌, ◌∙◌, ◌+◌, ◌<◌, ℕ, List, [], ◌∷◌, ◌++◌, None, Option, Some, length, refl, replicate, suc, zero, ap, subst, arith}
+use Rattle.std.proofs.Common.{◌≡◌, ◌∙◌, ◌<◌, ℕ, List, [], ◌∷◌, ◌++◌, None, Option, Some, length, refl, replicate, suc, zero, ap, subst, arith}
 use Rattle.std.specs.Prelude.{Bool, IsSomeAnd, nat_lt, true}
 use Rattle.site_peers.specs.declared.link_inlet.InletFault.{InletFault}
-use Rattle.std.specs.List.{filter}
 use Rattle.std.proofs.lemmas.Bool.{lt-ltb}
 use Rattle.std.proofs.lemmas.List.Elements.{filter-append}
 use Rattle.link_stream.specs.Items.{IsFrame, beat}

@@ -1,5 +1,5 @@
 -- How far a site is behind a peer (this project's own).
-use Rattle.std.specs.Prelude.{ℕ, ◌≡◌, ◌⊎◌, ◌+◌, ◌-◌, ◌^◌, ◌<◌, ◌≤◌, Bool, false, min, true}
+use Rattle.std.specs.Prelude.{ℕ, ◌≡◌, ◌+◌, ◌-◌, ◌^◌, ◌≤◌, Bool, false, min, true}
 use Rattle.site_peers.specs.declared.lag.LagStep.{LagStep}
 use Rattle.site_peers.specs.declared.lag.LagStep.TheVariants.{Ask, CaughtUp, Wait}
 

@@ -255,8 +255,11 @@ fn dial_until_end<
         if let Some(reason) = reason_of(fault) {
             end_links(rt, links, log, reason);
         }
-        let was_long = was_up && has_passed(rt, begun, LONG_MILLIS);
-        let pause = back_off.pause(end_of(fault, was_long), random(rt));
+        let end = end_of(fault, was_up && has_passed(rt, begun, LONG_MILLIS));
+        if end == DialEnd::Itself {
+            peer.itself.store(1, Ordering::SeqCst);
+        }
+        let pause = back_off.pause(end, random(rt));
         if links.ending().wait_within(rt, Duration::from_millis(pause)) {
             return;
         }

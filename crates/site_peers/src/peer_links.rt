@@ -9,7 +9,7 @@ use link_keys::Key;
 use std::alloc::Global;
 use std::net::{Net, SocketAddr, TcpListener, TcpStream};
 use std::sync::Wait;
-use std::sync::atomic::AtomicU64;
+use std::sync::atomic::{AtomicU64, Ordering};
 use std::time::Duration;
 
 // How long a connection to the site's own port may take, in milliseconds.
@@ -29,6 +29,8 @@ pub trait Ring<R> {
 pub(crate) struct Peer {
     pub address: String,
     pub queue: SharedQueue,
+    // 1 if it is known to be the site itself, else 0.
+    pub itself: AtomicU64,
 }
 
 /// What the threads of a site share for its links: who the site is, the peers that it dials, what waits for them, and whether it ends.
@@ -60,6 +62,7 @@ fn peers_of(alloc: Global, addresses: Vec<String>, limit: usize) -> Result<Vec<P
         let peer = Peer {
             address,
             queue: SharedQueue::new(alloc, limit),
+            itself: AtomicU64::new(0),
         };
         if peers.push(peer).is_err() {
             return Err(Memory);
@@ -140,6 +143,18 @@ impl<G: Drop> PeerLinks<G> {
     /// Of how many sites a frame was taken since the launch. The first frame of a link is a whole.
     pub fn taken_count<R: Wait>(&self, rt: &R) -> usize {
         self.heard.taken_count(rt)
+    }
+
+    /// Whether it dials more peers than those of which a frame was taken since the launch. A peer that has turned out to be the site itself
+    /// doesn't count.
+    pub fn awaits_peers<R: Wait>(&self, rt: &R) -> bool {
+        let mut others: usize = 0;
+        for peer in &self.peers {
+            if peer.itself.load(Ordering::SeqCst) == 0 {
+                others = others.saturating_add(1);
+            }
+        }
+        self.taken_count(rt) < others
     }
 
     /// Whether the site ends, and why.

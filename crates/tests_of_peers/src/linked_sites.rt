@@ -437,10 +437,10 @@ fn a_long_whole_is_sent_in_parts(rt: HostRuntime) {
 }
 
 // Neither site has room for the members of the other, 17,000 in all: each refuses the other's whole, and takes the member that is added
-// once they are linked.
+// once they are linked. They are added between two asks for a whole, which come 5 and 10 seconds after the launch.
 #[test]
 fn full_sites_take_what_fits(rt: HostRuntime) {
-    let linked = Duration::from_millis(4_000);
+    let linked = Duration::from_millis(8_000);
     let (first, second) = (first(9_000, linked, 9_002), second(8_000, linked, 8_002));
     assert!(rt; both_show(&rt, rt.alloc(), first, second));
 }

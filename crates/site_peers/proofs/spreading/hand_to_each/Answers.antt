@@ -1,4 +1,4 @@
-use Rattle.std.proofs.Common.{◌≡◌, ◌∙◌, Bool, rules, false, subst, sym, true, true≢false}
+use Rattle.std.proofs.Common.{◌≡◌, ◌∙◌, Bool, rules, false, subst, sym, true≢false}
 use Rattle.site_journal.specs.declared.receipt.Receipt.{Receipt}
 use Rattle.site_pumps.proofs.Carrying.{at_first, at_last, one_more}
 use Rattle.site_peers.specs.Outboxes.{Handing}
