@@ -10,7 +10,7 @@ ghost use Rattle.linked_site.specs.declared.tasks.TheConstants.{MOST_PLACES};
 use crate::failed;
 use crate::storing::{SiteStore, open_store};
 use command_line::{Exit, SiteAddresses, SiteRequest};
-use dots::{Memory, SiteId};
+use dots::Memory;
 use event_log::EventLog;
 use link_keys::Key;
 use linked_site::{
@@ -27,7 +27,6 @@ use std::random::RandomSource;
 use std::sync::{Arc, Wait};
 use std::thread::Threads;
 use std::time::Clock;
-use stored_desk::CommitFault;
 
 // What is printed if standard output fails.
 const WRITE_FAILED: &str = "write failed";
@@ -228,20 +227,6 @@ fn serve_volatile<
     serve_replica(rt, request, replica, links, listeners, events)
 }
 
-// Logs why a commit of a site's store has failed, if one has.
-fn log_fault<R: AllocGlobal + Wait>(
-    rt: &R,
-    site: SiteId,
-    fault: Option<CommitFault>,
-    events: &EventLog,
-) {
-    if let Some(fault) = fault {
-        let number = site.number();
-        let line = format!(in rt.alloc(); "queue_sites: site {number}: store failed: {fault}");
-        events.add(rt, line);
-    }
-}
-
 // The site whose store is the file at this path, and how it is linked. `Err`: a fault was printed, and the program ends so.
 fn stored_site<R: AllocGlobal + Eprint + Wait>(
     rt: &R,
@@ -311,7 +296,6 @@ fn serve_file<
         events,
     ) {
         Ok(end) => {
-            log_fault(rt, request.site, end.fault, events);
             drop(end);
             Ok(Exit::Failed)
         }
