@@ -137,6 +137,20 @@ impl<S: Alter + Drop> StepDatabase<S> {
         }
     }
 
+    /// The bytes that name the store for ever.
+    pub fn name(&self) -> &[u8; NAME_BYTES]
+        ensures { result.now ≡ self.now.origin.name }
+    {
+        &self.name
+    }
+
+    /// How often the site was started over the store, this start included; at most 2^64 - 1.
+    pub fn starts(&self) -> u64
+        ensures { result ≡ self.now.origin.starts }
+    {
+        self.starts
+    }
+
     /// Gives up the store for its connection.
     pub fn into_connection(self) -> Connection<S>
         ensures { result ≡ self.conn }

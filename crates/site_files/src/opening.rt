@@ -1,0 +1,256 @@
+//! Opens the file of a site's store.
+ghost use Rattle.std.specs.Prelude.{◌≡◌, ◌≢◌, ◌≤◌, ◌++◌, ◌∷◌, [], ℕ, List, IfOk};
+ghost use Rattle.sqlite.specs.Files.{HoldsDatabase, file_state};
+ghost use Rattle.sqlite.specs.Held.{state};
+ghost use Rattle.sqlite.specs.State.{HasCleanDisk};
+ghost use Rattle.sqlite.specs.Tree.{Trees};
+ghost use Rattle.sqlite.specs.WalFiles.{image_at};
+ghost use Rattle.replica.specs.Site.{IsSameSite};
+ghost use Rattle.site_journal.specs.declared.journaled.TheConstants.{MOST_STEPS};
+ghost use Rattle.stored_steps.specs.StartRows.{start_row};
+ghost use Rattle.stored_steps.specs.Stored.{Stored};
+ghost use Rattle.site_store.specs.Steps.{Holds, Lists};
+ghost use Rattle.step_database.specs.Databases.{Keeps, Stores};
+
+use crate::{OpenedFile, SiteFile, SiteFileFault};
+use dots::{Memory, SiteId};
+use replica::{QueueList, Replica};
+use site_journal::MOST_STEPS;
+use site_store::{OpenFault, open, open_new};
+use sqlite::{Alter, Connection, Start, Unknown};
+use std::alloc::Global;
+use std::fs;
+use std::random::RandomSource;
+use step_database::StepDatabase;
+use stored_steps::{NAME_BYTES, StoredRow, row_of_base};
+
+/// The name of the file of this site's store in a folder: `FOLDER/site-K.db`. Fails only when out of memory.
+pub fn file_of_site(alloc: Global, folder: &str, site: SiteId) -> Result<String, Memory> {
+    let number = site.number();
+    let path = format!(in alloc; "{folder}/site-{number}.db")?;
+    Ok(path)
+}
+
+// The name of the log of a file.
+fn log_of(alloc: Global, path: &str) -> Result<String, Memory> {
+    let log = format!(in alloc; "{path}-wal")?;
+    Ok(log)
+}
+
+// The site that goes on over a connection, and its store, which is new or not.
+fn resume_connection<S: Alter + Drop>(
+    alloc: Global,
+    conn: Connection<S>,
+    site: SiteId,
+    list: &QueueList,
+    limit: u32,
+    is_new: bool,
+) -> Result<SiteFile<S>, OpenFault>
+    requires some { 1 ≤ limit }
+    requires most { limit ≤ MOST_STEPS }
+    ensures site { IfOk result (λ it. it.replica.site ≡ site) }
+    ensures names { IfOk result (λ it. it.replica.names ≡ list.now) }
+    ensures begun { IfOk result (λ it. IsSameSite it.store.origin.begun it.replica) }
+    ensures rows { IfOk result (λ it. HasCleanDisk (state S.Store it.store.conn)
+        → (first : ℕ) (rows : List Stored)
+        → Holds (state S.Store conn) first rows → rows ≢ []
+        → Holds (state S.Store it.store.conn) first (rows ++ start_row ∷ [])) }
+    ensures clean { IfOk result (λ it. HasCleanDisk (state S.Store it.store.conn)
+        → HasCleanDisk (state S.Store conn)) }
+    ensures holds { IfOk result (λ it. HasCleanDisk (state S.Store it.store.conn)
+        → Stores (state S.Store it.store.conn) it.store.origin it.store.next []) }
+    ensures keeps { IfOk result (λ it. HasCleanDisk (state S.Store it.store.conn)
+        → Keeps (state S.Store it.store.conn) it.store.origin []) }
+{
+    let (store, journal) = StepDatabase::resume(alloc, conn, site, list, limit)?;
+    let replica = journal.replica().copy();
+    drop(journal);
+    match replica {
+        Ok(replica) => Ok(SiteFile {
+            store,
+            replica,
+            is_new,
+        }),
+        Err(_) => {
+            drop(store);
+            Err(OpenFault::Memory)
+        }
+    }
+}
+
+/// The site whose store is the file at a path, with these queues. The row of this start is added, in a commit of its own. While the
+/// store's steps are done again `limit` of them are in memory, 1 to 1,000,000.
+///
+/// Errors, in order: those of `open` of `site_store`, of which `Blank` leaves a file without a table where none was; those of `resume`
+/// of `site_store`, at which the rows stay. `Memory` may stand in place of each but `InUse` and `CannotOpen`.
+pub fn resume_site_file<S: Start>(
+    rt: &HostRuntime,
+    path: &str,
+    start: S,
+    site: SiteId,
+    list: &QueueList,
+    limit: u32,
+) -> Result<OpenedFile<S>, OpenFault>
+    requires some { 1 ≤ limit }
+    requires most { limit ≤ MOST_STEPS }
+    ensures site { IfOk result (λ it. it.replica.site ≡ site) }
+    ensures names { IfOk result (λ it. it.replica.names ≡ list.now) }
+    ensures begun { IfOk result (λ it. IsSameSite it.store.origin.begun it.replica) }
+    // The store has the rows that the file held, and then that of this start.
+    ensures rows { IfOk result (λ it. HasCleanDisk (file_state it.store.conn)
+        → (db : Trees) (first : ℕ) (rows : List Stored)
+        → HoldsDatabase (image_at S.Start) db → Lists (db 0) first rows → rows ≢ []
+        → Holds (file_state it.store.conn) first (rows ++ start_row ∷ [])) }
+    ensures holds { IfOk result (λ it. HasCleanDisk (file_state it.store.conn)
+        → Stores (file_state it.store.conn) it.store.origin it.store.next []) }
+    ensures keeps { IfOk result (λ it. HasCleanDisk (file_state it.store.conn)
+        → Keeps (file_state it.store.conn) it.store.origin []) }
+{
+    let conn = open(rt, path, start)?;
+    resume_connection(rt.alloc(), conn, site, list, limit, false)
+}
+
+// The row of the base of a new site with these queues, over a store that has this name and was never started.
+fn new_base(
+    alloc: Global,
+    site: SiteId,
+    list: &QueueList,
+    name: &[u8; NAME_BYTES],
+) -> Result<StoredRow, Memory> {
+    let replica = Replica::new(alloc, site, list.copy()?);
+    let row = row_of_base(alloc, &replica, name, 0);
+    drop(replica);
+    row
+}
+
+/// Makes the store of a new site, with these queues, in a file at a path that is missing or has no table yet. The store's name is 16 random
+/// bytes. The row of this start is added, in a commit of its own.
+///
+/// Errors, in order: `NoName`; `Open`, with the errors of `open_new` of `site_store`, or, if the file fails thereafter, those of `resume`
+/// of `site_store`. `Open` with `Memory` may stand in place of each.
+pub fn new_site_file<S: Start>(
+    rt: &HostRuntime,
+    path: &str,
+    start: S,
+    site: SiteId,
+    list: &QueueList,
+    limit: u32,
+) -> Result<OpenedFile<S>, SiteFileFault>
+    requires some { 1 ≤ limit }
+    requires most { limit ≤ MOST_STEPS }
+    ensures site { IfOk result (λ it. it.replica.site ≡ site) }
+    ensures names { IfOk result (λ it. it.replica.names ≡ list.now) }
+    ensures begun { IfOk result (λ it. IsSameSite it.store.origin.begun it.replica) }
+    ensures holds { IfOk result (λ it. HasCleanDisk (file_state it.store.conn)
+        → Stores (file_state it.store.conn) it.store.origin it.store.next []) }
+    ensures keeps { IfOk result (λ it. HasCleanDisk (file_state it.store.conn)
+        → Keeps (file_state it.store.conn) it.store.origin []) }
+{
+    let mut name = [0u8; NAME_BYTES];
+    if let Err(error) = rt.fill_bytes(&mut name) {
+        drop(start);
+        return Err(SiteFileFault::NoName(error));
+    }
+    let Ok(base) = new_base(rt.alloc(), site, list, &name) else {
+        drop(start);
+        return Err(SiteFileFault::Open(OpenFault::Memory));
+    };
+    let opened = open_new(rt, path, start, 0, &base);
+    drop(base);
+    match opened {
+        Ok(conn) => match resume_connection(rt.alloc(), conn, site, list, limit, true) {
+            Ok(file) => Ok(file),
+            Err(fault) => Err(SiteFileFault::Open(fault)),
+        },
+        Err(fault) => Err(SiteFileFault::Open(fault)),
+    }
+}
+
+// Whether no file is at a path.
+fn is_missing(rt: &HostRuntime, path: &str) -> bool {
+    matches!(fs::exists(rt, path), Ok(false))
+}
+
+// Whether a file at a path has no bytes.
+fn is_empty(rt: &HostRuntime, path: &str) -> bool {
+    match fs::metadata(rt, path) {
+        Ok(found) => found.len() == 0,
+        Err(_) => false,
+    }
+}
+
+// Removes the files of a store that could not be made. A failure leaves them, without a table.
+fn remove_files(rt: &HostRuntime, path: &str, log: &str) {
+    let _ = fs::remove_file(rt, path);
+    let _ = fs::remove_file(rt, log);
+}
+
+// The site whose store is the file at a path, which exists.
+fn open_old_file(
+    rt: &HostRuntime,
+    path: &str,
+    site: SiteId,
+    list: &QueueList,
+    limit: u32,
+) -> Result<OpenedFile<Unknown>, OpenFault>
+    requires some { 1 ≤ limit }
+    requires most { limit ≤ MOST_STEPS }
+    ensures site { IfOk result (λ it. it.replica.site ≡ site) }
+    ensures names { IfOk result (λ it. it.replica.names ≡ list.now) }
+    ensures begun { IfOk result (λ it. IsSameSite it.store.origin.begun it.replica) }
+    ensures holds { IfOk result (λ it. HasCleanDisk (file_state it.store.conn)
+        → Stores (file_state it.store.conn) it.store.origin it.store.next []) }
+    ensures keeps { IfOk result (λ it. HasCleanDisk (file_state it.store.conn)
+        → Keeps (file_state it.store.conn) it.store.origin []) }
+{
+    if is_empty(rt, path) {
+        return Err(OpenFault::NoStore);
+    }
+    match resume_site_file(rt, path, Unknown, site, list, limit) {
+        Err(OpenFault::Blank) => Err(OpenFault::NoStore),
+        other => other,
+    }
+}
+
+/// The site whose store is the file at a path, with these queues, as `resume_site_file` has it. Where neither the file nor its log (`PATH-wal`) is
+/// there, it makes a new site in that file, as `new_site_file` does. It supposes that a torn write leaves each byte of the file old or new.
+///
+/// Errors, in order: `Open` with `NoStore`, if only the log is there, or the file has no bytes or no table: it may have been a store, and a new
+/// site of its number would make dots that others have; `Open`, with the errors of `resume_site_file` except `Blank`; those of
+/// `new_site_file`, and if the database failed the new files are removed. `Open` with `Memory` may stand in place of each. A store that is
+/// refused keeps its rows.
+pub fn open_site_file(
+    rt: &HostRuntime,
+    path: &str,
+    site: SiteId,
+    list: &QueueList,
+    limit: u32,
+) -> Result<OpenedFile<Unknown>, SiteFileFault>
+    requires some { 1 ≤ limit }
+    requires most { limit ≤ MOST_STEPS }
+    ensures site { IfOk result (λ it. it.replica.site ≡ site) }
+    ensures names { IfOk result (λ it. it.replica.names ≡ list.now) }
+    ensures begun { IfOk result (λ it. IsSameSite it.store.origin.begun it.replica) }
+    ensures holds { IfOk result (λ it. HasCleanDisk (file_state it.store.conn)
+        → Stores (file_state it.store.conn) it.store.origin it.store.next []) }
+    ensures keeps { IfOk result (λ it. HasCleanDisk (file_state it.store.conn)
+        → Keeps (file_state it.store.conn) it.store.origin []) }
+{
+    if !is_missing(rt, path) {
+        return match open_old_file(rt, path, site, list, limit) {
+            Ok(file) => Ok(file),
+            Err(fault) => Err(SiteFileFault::Open(fault)),
+        };
+    }
+    let Ok(log) = log_of(rt.alloc(), path) else {
+        return Err(SiteFileFault::Open(OpenFault::Memory));
+    };
+    if !is_missing(rt, log.as_str()) {
+        return Err(SiteFileFault::Open(OpenFault::NoStore));
+    }
+    let made = new_site_file(rt, path, Unknown, site, list, limit);
+    if let Err(SiteFileFault::Open(OpenFault::Database(_))) = made {
+        remove_files(rt, path, log.as_str());
+    }
+    made
+}
