@@ -1,25 +1,31 @@
-//! The program `frame_cases`, for tests: reads lines of frames as hexadecimal, and writes what each frame says, the frames and
-//! faults of streams, and the held delta after frames have changed it (`docs/frames.md`, "Frames in words").
-#![tactic(auto)]
-
+//! Reads lines of frames as hexadecimal, and writes what each frame says, the frames and faults of streams, and the held delta after
+//! frames have changed it (`docs/frames.md`, "Frames in words").
 mod changing;
 mod line;
 mod reading;
 mod saying;
 mod words;
 
-use crate::line::give_line;
+use crate::frames::line::give_line;
 use delta::Delta;
 use std::alloc::Global;
 use std::io::{self, BufWriter, ErrorKind, Write};
 
-fn main(rt: HostRuntime) -> io::Result<()> {
-    let mut out = BufWriter::new(rt.alloc(), io::writer(&rt))?;
+// Writes the output of each line of standard input. `None` if there are words.
+pub(crate) fn run<R: AllocGlobal + Print + Input>(
+    rt: &R,
+    words: &[String],
+) -> io::Result<Option<u8>> {
+    if !words.is_empty() {
+        return Ok(None);
+    }
+    let mut out = BufWriter::new(rt.alloc(), io::writer(rt))?;
     let mut held = Delta::empty(rt.alloc());
-    let given = give_lines(&rt, &mut out, &mut held);
+    let given = give_lines(rt, &mut out, &mut held);
     drop(held);
     given?;
-    out.flush()
+    out.flush()?;
+    Ok(Some(0))
 }
 
 // Writes the output of each line of standard input.
