@@ -13,6 +13,8 @@ A case is files of one stem. Its kind is the ending of the first, and decides wh
     STEM.expected              what the program must write to standard output, byte for byte
     STEM.words                 the words of the command line, one a line, where they are not those of the kind
     STEM.status                the exit status that it must end with, where that is not 0
+
+The text at the head of a program's main file says which lines it reads and what it writes.
 """
 import concurrent.futures
 import os

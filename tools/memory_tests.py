@@ -2,9 +2,9 @@
 is prepared, asserts itself what was kept or written, and prints a word for how it ended. This module checks that no refusal is passed
 over. A test that starts threads doesn't make the same number of allocations each time.
 
-The same for programs on cases. Such a program compares the state after a refusal with a copy from before (of a journal only its site and
-its lengths; of a desk and of a raise nothing), writes `memory`, and does the line again: so it must write what the case expects, and
-that one line more. Or it ends with status 1, or 2 while it reads its words, if the refused allocation was its own."""
+The same for programs on cases. Such a program compares the state after a refusal with a copy from before (of a desk and of a raise
+nothing), writes `memory`, and does the line again: so it must write what the case expects, and that one line more. Or it ends with
+status 1, or 2 while it reads its words, if the refused allocation was its own."""
 import itertools
 import os
 import sys

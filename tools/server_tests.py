@@ -39,7 +39,7 @@ LITTLE = 0.2
 # What is logged where memory runs out.
 TOLD = re.compile(rb"queue_sites: (\d+ log lines dropped|site \d+: (no connection: .+|client \S+: (connection not prepared: .+|"
                   rb"waits for a place|session ended: (out of memory; its last command may have been done|"
-                  rb"desk down; its last command was not done))|behind site \d+: .+|caught up with site \d+))")
+                  rb"desk down; its last command may have been done))|behind site \d+: .+|caught up with site \d+))")
 # A line of the log by which a site falls behind a peer, or catches up with it.
 OF_PEER = re.compile(rb"queue_sites: site (\d+): (behind|caught up with) site (\d+)(?:: .+)?")
 # A line of the log about a client.

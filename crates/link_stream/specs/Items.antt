@@ -3,7 +3,7 @@ use Rattle.std.specs.Prelude.{ℕ, ◌≡◌, ◌⊎◌, ◌+◌, ◌-◌, ◌^�
 use Rattle.std.specs.Int.{from_be_bytes, to_be_bytes, w32, w64}
 use Rattle.delta_codec.specs.declared.limits.TheConstants.{LEAST_LENGTH, MOST_LENGTH}
 use Rattle.link_stream.specs.declared.acknowledgement.Acknowledgement.{Acknowledgement}
-use Rattle.link_stream.specs.declared.acknowledgement.Acknowledgement.TheVariants.{Refused, Taken}
+use Rattle.link_stream.specs.declared.acknowledgement.Acknowledgement.TheVariants.{Behind, Refused, Taken}
 use Rattle.link_stream.specs.declared.item.Item.{Item}
 use Rattle.link_stream.specs.declared.item.Item.TheVariants.{Beat, Frame}
 
@@ -55,10 +55,12 @@ IsPart bytes = (length bytes < 4) ⊎ (IsSize (size_in bytes) × (length bytes <
 
 -- a receiver gives no count that another one has the bytes of
 abbrev pub IsAcknowledgement : Acknowledgement → Type 0
-IsAcknowledgement (Taken count) = count < 2 ^ 64 - 1
+IsAcknowledgement (Taken count) = count < 2 ^ 64 - 2
+IsAcknowledgement Behind = Unit {0}
 IsAcknowledgement Refused = Unit {0}
 
--- the bytes of an acknowledgement: how many bytes were taken, or eight times 255 where a frame was refused
+-- the bytes of an acknowledgement: how many bytes were taken, or the greatest number but one where the acceptor is behind, and the greatest where a frame was refused
 abbrev pub acknowledgement_bytes : Acknowledgement → List ℕ
-acknowledgement_bytes (Taken count) = to_be_bytes w64 (min count (2 ^ 64 - 2))
+acknowledgement_bytes (Taken count) = to_be_bytes w64 (min count (2 ^ 64 - 3))
+acknowledgement_bytes Behind = to_be_bytes w64 (2 ^ 64 - 2)
 acknowledgement_bytes Refused = to_be_bytes w64 (2 ^ 64 - 1)

@@ -3,7 +3,7 @@ use Rattle.std.proofs.Common.{◌≡◌, ◌+◌, ℕ, zero, suc, List, [], ◌�
 use Rattle.std.proofs.Math.ListN.{get_or-append}
 use Rattle.std.proofs.Math.Seq.{get_or-append_seam}
 use Rattle.std.proofs.lemmas.Option.{slice_get-get_or}
-use Rattle.site_threads.specs.Places.{AtEach}
+use Rattle.launcher.specs.Places.{AtEach}
 
 -- it holds where there is no element
 pub each_none : {E : Type 0} (H : ℕ → E → Type 0) (xs : List E) → length xs ≡ 0 → AtEach H xs

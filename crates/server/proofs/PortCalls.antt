@@ -1,12 +1,15 @@
 -- The pass of a port after calls.
 use Rattle.std.specs.Borrow.{MutBor}
-use Rattle.std.proofs.Common.{◌≡◌, ◌∙◌, ℕ, List, ap, refl}
+use Rattle.std.proofs.Common.{◌≡◌, ◌∙◌, ◌⊎◌, ℕ, List, ap, refl, ⊎_elim}
+use Rattle.replica.specs.Site.{SiteState}
 use Rattle.site_journal.specs.declared.desk_fault.DeskFault.{DeskFault}
 use Rattle.site_journal.specs.declared.receipt.Receipt.{Receipt}
 use Rattle.site_desk.specs.Passes.{PassState}
 use Rattle.site_desk.specs.Ports.{MakesByPass, RefusesByPass}
 use Rattle.site_desk.specs.declared.desk_port.DeskPort.{DeskPort}
 use Rattle.site_pumps.specs.Calls.{EachCallKeeps, HasCalled}
+use Rattle.stored_desk.specs.Failing.{HasDoneUnanswered}
+use Rattle.stored_desk.specs.Ports.{MakesByStoredPass, RefusesByStoredPass}
 use Rattle.site_pumps.proofs.Calling.{calls_keep}
 
 -- a port has the same borrow of a pass, and the pass has its number
@@ -32,4 +35,23 @@ desk_port_called {L} site names p q called = pass_kept (λ (x : DeskPort L). x.p
     (record {
       receipt = λ x y receipt makes. record { ordinal = ap (λ (s : PassState). s.ordinal) makes.done.counted; same = makes.same };
       fault = λ x y fault refuses. record { ordinal = ap (λ (s : PassState). s.ordinal) refuses.unchanged; same = refuses.same };
+    }) p q called
+
+-- a step whose receipt nobody got keeps the number of the pass
+pub unanswered_kept : (base : SiteState) (old new : PassState) → (new ≡ old) ⊎ HasDoneUnanswered base old new → new.ordinal ≡ old.ordinal
+unanswered_kept base old new is = ⊎_elim (λ same. ap (λ (s : PassState). s.ordinal) same) (λ done. ap (λ (s : PassState). s.ordinal) done.done.counted) is
+
+-- calls of a port of a desk with a store
+pub stored_port_called : {P : Type 0} (lent : P → MutBor PassState) (base : SiteState) (p q : P)
+    → HasCalled (λ (old : P) receipt (new : P). MakesByStoredPass base (lent old) receipt (lent new)) (λ (old : P) cause (new : P). RefusesByStoredPass base (lent old) cause (lent new)) p q
+    → HasSamePass (lent p) (lent q)
+stored_port_called {P} lent base p q called = pass_kept lent
+    (λ (old : P) receipt (new : P). MakesByStoredPass base (lent old) receipt (lent new))
+    (λ (old : P) cause (new : P). RefusesByStoredPass base (lent old) cause (lent new))
+    (record {
+      receipt = λ x y receipt makes. record { ordinal = ap (λ (s : PassState). s.ordinal) makes.done.counted; same = makes.same };
+      fault = λ x y fault refuses. record {
+        ordinal = ⊎_elim (λ same. ap (λ (s : PassState). s.ordinal) same) (λ more. ap (λ (s : PassState). s.ordinal) more.1.done.counted) refuses.fails;
+        same = refuses.same;
+      };
     }) p q called

@@ -4,7 +4,7 @@ use Rattle.std.proofs.lemmas.Option.{get_or_from_slice_get, slice_get-get_or}
 use Rattle.site_desk.specs.Passes.{PassState}
 use Rattle.site_links.specs.declared.linking.SiteLinks.{SiteLinks}
 use Rattle.site_threads.specs.Ends.{HaveEnded}
-use Rattle.site_threads.specs.Places.{AtEach}
+use Rattle.launcher.specs.Places.{AtEach}
 use Rattle.site_threads.specs.declared.site_tasks.SiteOutput.{SiteOutput}
 use Rattle.site_threads.specs.declared.site_tasks.SiteTasks.{SiteTasks}
 use Rattle.server.specs.ServedJournals.{IsServedJournal}
@@ -14,7 +14,7 @@ use Rattle.server.specs.declared.site.TheConstants.{JOURNAL_STEPS}
 use Rattle.server.specs.declared.working.SiteTask.{SiteTask}
 
 -- a place within a list has an element
-got_within : {E : Type 0} (xs : List E) (k : ℕ) → k < length xs → (x : E) × (slice_get xs k ≡ Some x)
+pub got_within : {E : Type 0} (xs : List E) (k : ℕ) → k < length xs → (x : E) × (slice_get xs k ≡ Some x)
 got_within [] k low = absurd (omega (arith, low))
 got_within (x ∷ xs) zero low = (x, refl)
 got_within (x ∷ xs) (suc k) low = got_within xs k (omega (arith, low))

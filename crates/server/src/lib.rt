@@ -2,7 +2,8 @@
 //!
 //! [`serve_sites`] listens at one port a site. At each site a number of threads answer clients, one sends the site's frames, and one for
 //! each other site takes that site's frames. A client that doesn't log in, is silent or reads too little loses its place after a
-//! deadline, so that others are served.
+//! deadline, so that others are served. [`serve_stored_sites`] does so for sites with stores, each of which has one thread more, that saves
+//! what nobody waits for.
 //!
 //! A site that can't take a frame of a peer is behind that peer: the peer then sends a whole, a frame of all that it knows, again and again
 //! until the site has taken one.
@@ -14,9 +15,12 @@ mod peer_link;
 mod pumping;
 mod serve_sites_fault;
 mod serving;
-mod sessions;
+mod sharing;
 mod site;
-mod upkeep;
+mod stored_serving;
+mod stored_site;
+mod stored_start;
+mod stored_working;
 mod working;
 
 pub use dots::Memory;
@@ -24,4 +28,7 @@ pub use serve_sites_fault::ServeSitesFault;
 pub use serving::{LAST_PORT, MOST_SERVED_SITES, serve_sites};
 pub use serving_clients::{IDLE_SECONDS, PLACES, ServerSettings, SessionSettings};
 pub use site::JOURNAL_STEPS;
+pub use stored_serving::serve_stored_sites;
+pub use stored_start::StoredStart;
+pub use stored_threads::StoredSiteOutput;
 pub use working::MOST_PLACES;

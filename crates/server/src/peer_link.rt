@@ -1,14 +1,17 @@
 //! A link from a peer, and whether its site is behind that peer.
-ghost use Rattle.std.specs.Prelude.{◌≡◌, ◌++◌, ◌∷◌, []};
+ghost use Rattle.std.specs.Prelude.{◌≡◌, ◌++◌, ◌∷◌, [], IsTrue};
+ghost use Rattle.server.specs.EndingFaults.{EndsSite};
 
 use crate::site::Site;
-use crate::upkeep::Upkeep;
 use dots::SiteId;
+use replica::TakeFault;
 use site_journal::DeskFault;
 use site_links::{LinkReceiver, LinkSender};
 use site_pumps::Inlet;
 use std::alloc::Global;
 use std::sync::Wait;
+use std::sync::atomic::{AtomicU64, Ordering};
+use stored_pass_desk::Upkeep;
 
 // Sends a mark on each link, after a whole that was sent on all of them: an item without a byte, which is no frame.
 pub(crate) fn mark_whole<R: Wait>(rt: &R, alloc: Global, links: &mut [LinkSender]) {
@@ -28,18 +31,26 @@ pub(crate) struct PeerLink<'a, U> {
     upkeep: &'a U,
     alloc: Global,
     is_behind: bool,
+    // Whether the link has brought a frame.
+    has_brought: bool,
+    // Whether the site has taken or refused the first frame that the link brought.
+    is_noted: bool,
     // Whether the site has taken the last frame that the link brought.
     has_taken: bool,
+    // Of a site with a store: how many peers it waits for, until the first frame of each was taken or refused.
+    awaited: Option<&'a AtomicU64>,
 }
 
 impl<'a, U> PeerLink<'a, U> {
-    // The link that brings the frames of this peer to the site, which isn't behind the peer.
+    // The link that brings the frames of this peer to the site, which isn't behind the peer. A site with a store counts the peers that it
+    // waits for.
     pub fn new(
         alloc: Global,
         site: &'a Site,
         peer: SiteId,
         upkeep: &'a U,
         link: LinkReceiver,
+        awaited: Option<&'a AtomicU64>,
     ) -> PeerLink<'a, U>
         ensures { result.link ≡ link }
     {
@@ -50,7 +61,22 @@ impl<'a, U> PeerLink<'a, U> {
             upkeep,
             alloc,
             is_behind: false,
+            has_brought: false,
+            is_noted: false,
             has_taken: false,
+            awaited,
+        }
+    }
+
+    // Whether this fault of a call ends the site: its store has failed, or does not say what other sites know of the site's own changes.
+    pub fn ends_site(&self, fault: DeskFault) -> bool
+        ensures { IsTrue result → EndsSite fault }
+    {
+        match fault {
+            DeskFault::Unsaved => true,
+            DeskFault::Take(TakeFault::NotMine) => self.awaited.is_some(),
+            DeskFault::Take(TakeFault::Conflict) => self.awaited.is_some(),
+            _ => false,
         }
     }
 
@@ -65,19 +91,35 @@ impl<'a, U> PeerLink<'a, U> {
         self.is_behind = true;
         let (site, peer) = (self.site.number.number(), self.peer.number());
         let line = format!(in self.alloc; "queue_sites: site {site}: behind site {peer}: {fault}");
-        self.site.events.add(rt, line);
+        self.site.clients.events().add(rt, line);
         self.site.fall_behind(rt, self.peer);
     }
 
-    // Gives up the link: the site asks the peer for no further whole.
+    // Notes that the site has taken or refused the first frame of the peer, if it waits for that.
+    fn note_first(&mut self)
+        ensures { self.new.link ≡ self.old.link }
+    {
+        if !self.has_brought || self.is_noted {
+            return;
+        }
+        self.is_noted = true;
+        if let Some(awaited) = self.awaited {
+            let _ = awaited.fetch_sub(1, Ordering::SeqCst);
+        }
+    }
+
+    // Gives up the link: the site asks the peer for no further whole, and doesn't wait for it.
     pub fn give_up<R: Wait>(self, rt: &R) {
+        let mut link = self;
+        link.has_brought = true;
+        link.note_first();
         let PeerLink {
             link,
             site,
             peer,
             is_behind,
             ..
-        } = self;
+        } = link;
         drop(link);
         if is_behind {
             site.catch_up(rt, peer);
@@ -94,7 +136,7 @@ impl<'a, U> PeerLink<'a, U> {
         self.is_behind = false;
         let (site, peer) = (self.site.number.number(), self.peer.number());
         let line = format!(in self.alloc; "queue_sites: site {site}: caught up with site {peer}");
-        self.site.events.add(rt, line);
+        self.site.clients.events().add(rt, line);
         self.site.catch_up(rt, self.peer);
     }
 }
@@ -111,12 +153,14 @@ impl<'a, U: Upkeep<R>, R: Wait> Inlet<R> for PeerLink<'a, U> {
 
     // Waits for the next frame.
     fn next(&mut self, rt: &R) -> Option<Vec<u8>> {
+        self.note_first();
         for _ in rt.forever() {
             let Some(item) = self.link.recv(rt) else {
                 return None;
             };
             if !item.is_empty() {
                 self.upkeep.limit_steps(rt);
+                self.has_brought = true;
                 self.has_taken = true;
                 return Some(item);
             }

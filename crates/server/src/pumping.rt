@@ -1,11 +1,11 @@
 //! The threads of a site that send its frames, and that take those of its peers. A fault ends a pump, which is then called again.
 ghost use Rattle.std.specs.Prelude.{◌≡◌, ◌⊎◌, ◌↔◌, IfErr, IfNone, IsTrue, OnOk, false, true};
 ghost use Rattle.site_pumps.specs.Calls.{HasCalled};
+ghost use Rattle.server.specs.EndingFaults.{EndsSite};
 
 use crate::keeping_bell::KeepingBell;
 use crate::peer_link::{PeerLink, mark_whole};
 use crate::site::Site;
-use crate::upkeep::Upkeep;
 use dots::Memory;
 use site_journal::{DeskFault, Port, Receipt};
 use site_links::LinkSender;
@@ -14,6 +14,7 @@ use std::alloc::Global;
 use std::sync::Wait;
 use std::thread;
 use std::time::{Clock, Duration};
+use stored_pass_desk::Upkeep;
 
 // How long the thread that sends waits after a fault, in milliseconds.
 const PAUSE_MILLIS: u64 = 20;
@@ -220,7 +221,7 @@ fn take_again<R, P: Port<R>, U: Upkeep<R>>(
 }
 
 // Takes by this port the frames of a peer, until the link has ended. If the journal is full its steps are dropped, and the frame that was
-// refused is taken again. After another fault the site is behind the peer. Error: `Unsaved`, if the site's store has failed.
+// refused is taken again. After another fault the site is behind the peer, or it returns the fault: one that ends the site.
 pub(crate) fn take_news<R: Wait, P: Port<R>, U: Upkeep<R>>(
     rt: &R,
     upkeep: &U,
@@ -229,7 +230,7 @@ pub(crate) fn take_news<R: Wait, P: Port<R>, U: Upkeep<R>>(
 ) -> Result<(), DeskFault>
     ensures calls { HasCalled P.makes P.refuses port.old port.new }
     ensures ended { OnOk result (link.new.link.ended ≡ true) }
-    ensures fault { IfErr result (λ fault. fault ≡ DeskFault.Unsaved) }
+    ensures fault { IfErr result (λ fault. EndsSite fault) }
 {
     let mut sink = NoReceipts;
     for _ in rt.forever() {
@@ -238,10 +239,11 @@ pub(crate) fn take_news<R: Wait, P: Port<R>, U: Upkeep<R>>(
             drop(refused);
             return Ok(());
         };
-        match take_again(rt, upkeep, port, fault, refused) {
-            Ok(()) => {}
-            Err(DeskFault::Unsaved) => return Err(DeskFault::Unsaved),
-            Err(fault) => link.refuse(rt, fault),
+        if let Err(fault) = take_again(rt, upkeep, port, fault, refused) {
+            if link.ends_site(fault) {
+                return Err(fault);
+            }
+            link.refuse(rt, fault);
         }
     }
     unreachable!()

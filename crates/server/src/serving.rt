@@ -8,14 +8,14 @@ ghost use Rattle.ami_text.specs.Devices.{HasTaken};
 ghost use Rattle.replica.specs.Deeds.{IsNew};
 ghost use Rattle.site_links.specs.Linking.{AreLinksOf};
 ghost use Rattle.site_links.specs.declared.linking.SiteLinks.{SiteLinks};
-ghost use Rattle.site_threads.specs.Places.{AtEach};
+ghost use Rattle.launcher.specs.Places.{AtEach};
 ghost use Rattle.server.specs.Listening.{listening_lines};
 ghost use Rattle.server.specs.ServedJournals.{IsServedJournal};
 ghost use Rattle.server.specs.Tasks.{HasItsTasks, tasks_for};
 
 use crate::ServeSitesFault;
 use crate::listening::{listen, write_listening};
-use crate::sessions::Sessions;
+use crate::sharing::{ClientSettings, bells_of, shared_by};
 use crate::site::{JOURNAL_STEPS, Site};
 use crate::working::{MOST_PLACES, SiteTask, tasks_of};
 use ami_text::Sink;
@@ -23,7 +23,7 @@ use dots::{Memory, SiteId};
 use event_log::EventLog;
 use pass_desk::SiteBell;
 use replica::{QueueList, Replica};
-use serving_clients::{Places, ServerSettings, SessionSettings, Tickets};
+use serving_clients::{ServerSettings, answering_threads};
 use site_journal::Journaled;
 use site_links::{LinkEnds, SiteLinks, link_all};
 use site_threads::{LaunchFault, SiteOutput, SiteTasks, run_sites};
@@ -40,7 +40,7 @@ pub const MOST_SERVED_SITES: u16 = 8;
 pub const LAST_PORT: u16 = 65_528;
 
 // Inserts an element at the front of a list that has room for it.
-fn insert_first<T: Drop>(list: &mut Vec<T>, element: T)
+pub(crate) fn insert_first<T: Drop>(list: &mut Vec<T>, element: T)
     requires { vec_len list.old < vec_capacity list.old }
     ensures items { list.new.items ≡ insert list.old.items 0 element }
     ensures len { vec_len list.new ≡ vec_len list.old + 1 }
@@ -51,95 +51,13 @@ fn insert_first<T: Drop>(list: &mut Vec<T>, element: T)
     }
 }
 
-// Copies of the handles of these bells.
-fn copies_of(
-    alloc: Global,
-    bells: &[Arc<SiteBell, Global>],
-) -> Result<Vec<Arc<SiteBell, Global>>, Memory> {
-    let mut copies = Vec::with_capacity(alloc, bells.len())?;
-    for bell in bells {
-        copies.push(Arc::try_clone(bell)?)?;
-    }
-    Ok(copies)
-}
-
-// A bell for each of `sites` sites.
-fn bells_of(alloc: Global, sites: usize) -> Result<Vec<Arc<SiteBell, Global>>, Memory>
-    ensures { IfOk result (λ bells. vec_len bells ≡ sites) }
-{
-    let mut bells = Vec::new(alloc);
-    for _i in 0..sites {
-        match Arc::new(alloc, SiteBell::new()) {
-            Ok(bell) => bells.push(bell)?,
-            Err(_) => return Err(Memory),
-        }
-    }
-    Ok(bells)
-}
-
-// How the clients of each site of a server are served.
-#[derive(Clone, Copy)]
-struct Clients<'s, 'e> {
-    settings: &'s SessionSettings,
-    places: u16,
-    events: &'e Arc<EventLog, Global>,
-    // How many connections a site takes, if it isn't any number.
-    number: Option<u32>,
-}
-
-// How many threads of a site with this number of places answer clients. There is one more than places: it waits with the next client.
-fn answering(places: u16) -> u32
-    ensures { result ≡ places + 1 }
-{
-    u32::from(places) + 1
-}
-
-// What the threads of the site of this number share.
-fn shared_by(
-    alloc: Global,
-    number: SiteId,
-    clients: &Clients<'_, '_>,
-    bells: &[Arc<SiteBell, Global>],
-    listener: TcpListener,
-) -> Result<Site, Memory>
-    requires { number < length bells.now }
-    ensures { IfOk result (λ shared. shared.number ≡ number) }
-{
-    let Ok(bell) = Arc::try_clone(&bells[usize::from(number.number())]) else {
-        drop(listener);
-        return Err(Memory);
-    };
-    let Ok(bells) = copies_of(alloc, bells) else {
-        drop(bell);
-        drop(listener);
-        return Err(Memory);
-    };
-    let Ok(events) = Arc::try_clone(clients.events) else {
-        drop(bells);
-        drop(bell);
-        drop(listener);
-        return Err(Memory);
-    };
-    Ok(Site {
-        number,
-        listener,
-        bell,
-        bells,
-        tickets: Tickets::new(clients.number),
-        places: Places::new(u32::from(clients.places)),
-        sessions: Sessions::new(answering(clients.places)),
-        settings: clients.settings.copy(),
-        events,
-    })
-}
-
 // What the site of this number is launched with: it knows nothing, has the queues of `list`, and its
 // threads have this listener and these ends of links.
 fn launch_of(
     alloc: Global,
     number: SiteId,
     list: &QueueList,
-    clients: &Clients<'_, '_>,
+    clients: &ClientSettings<'_, '_>,
     bells: &[Arc<SiteBell, Global>],
     listener: TcpListener,
     links: LinkEnds,
@@ -155,7 +73,7 @@ fn launch_of(
     ensures len { IfOk result (λ site.
         vec_len site.tasks ≡ vec_len links.from + (clients.now.places + 2)) }
 {
-    let Ok(tasks) = tasks_of(alloc, number, answering(clients.places), links) else {
+    let Ok(tasks) = tasks_of(alloc, number, answering_threads(clients.places), links) else {
         drop(listener);
         return Err(Memory);
     };
@@ -180,7 +98,7 @@ fn launch_of(
 fn sites_of(
     alloc: Global,
     list: &QueueList,
-    clients: &Clients<'_, '_>,
+    clients: &ClientSettings<'_, '_>,
     bells: &[Arc<SiteBell, Global>],
     listeners: Vec<TcpListener>,
     links: SiteLinks,
@@ -231,7 +149,7 @@ fn sites_of(
 fn launches_of(
     alloc: Global,
     list: &QueueList,
-    clients: &Clients<'_, '_>,
+    clients: &ClientSettings<'_, '_>,
     listeners: Vec<TcpListener>,
 ) -> Result<Vec<SiteTasks<Site, SiteTask>>, Memory>
     requires few { vec_len listeners ≤ MOST_SERVED_SITES }
@@ -289,11 +207,13 @@ fn journals_of(ends: Vec<SiteOutput<()>>, room: Vec<Journaled>) -> Vec<Journaled
 }
 
 // Serves all sites that listen.
-fn serve_listeners<R: Threads + Wait + Clock + Sync>(
+fn serve_listeners<
+    R: Net<Listener = TcpListener, Stream = TcpStream> + Threads + Wait + Clock + Sync,
+>(
     rt: &R,
     alloc: Global,
     list: &QueueList,
-    clients: &Clients<'_, '_>,
+    clients: &ClientSettings<'_, '_>,
     listeners: Vec<TcpListener>,
 ) -> Result<Vec<Journaled>, LaunchFault>
     requires few { vec_len listeners ≤ MOST_SERVED_SITES }
@@ -382,11 +302,11 @@ pub fn serve_sites<
     ensures works { OnOk result (W.failed log.new ≡ false) }
 {
     let (address, port, sites) = (settings.address, settings.port, settings.sites);
-    let clients = Clients {
+    let clients = ClientSettings {
         settings: &settings.session,
         places: settings.places,
         events,
-        number: sessions,
+        connections: sessions,
     };
     let listeners = listen(rt, alloc, address, port, sites)?;
     write_listening(alloc, log, address, port, sites)?;

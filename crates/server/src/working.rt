@@ -1,22 +1,20 @@
 //! The tasks of a site's threads.
 ghost use Rattle.std.specs.Prelude.{◌≡◌, ◌+◌, ◌<◌, ◌≤◌, IfOk, vec_capacity, vec_len};
-ghost use Rattle.serve.specs.Desks.{HasWorked};
-ghost use Rattle.server.specs.Answering.{HasAnsweredClients};
+ghost use Rattle.serving_clients.specs.Answering.{HasAnsweredClients};
 ghost use Rattle.server.specs.Tasks.{peer_at, tasks_for};
 
 use crate::peer_link::PeerLink;
 use crate::pumping::{send_news, take_news};
 use crate::site::Site;
-use crate::upkeep::Upkeep;
 use dots::{Memory, SiteId};
 use pass_desk::{PassDesk, RingingDesk};
 use serve::Desk;
-use serving_clients::{ClientLog, accept, answer_client};
+use serving_clients::answer_clients;
 use site_desk::{DeskPort, Pass, SiteDesk, SiteLedger};
 use site_links::{LinkEnds, LinkReceiver, LinkSender};
 use site_threads::{Task, TaskEnd, TaskOutput};
 use std::alloc::Global;
-use std::net::TcpStream;
+use std::net::{Net, TcpListener, TcpStream};
 use std::sync::Wait;
 use std::time::Clock;
 
@@ -92,63 +90,21 @@ impl TaskOutput for SiteTask {
     ghost gives = { λ task site names old output new. ⊤ };
 }
 
-// Answers a client over this desk, but not at a site that was stopped.
-fn answer_one<R: Wait + Clock, D: Desk<R>>(
-    rt: &R,
-    alloc: Global,
-    site: &Site,
-    log: &ClientLog<'_>,
-    stream: &TcpStream,
-    desk: &mut D,
-)
-    ensures { HasWorked D.answers D.refuses desk.old desk.new }
-{
-    if site.sessions.is_stopped(rt) {
-        return;
-    }
-    answer_client(rt, alloc, log, &site.settings, stream, desk);
-}
-
-// Waits for the next client of a site, and answers it over this desk once there is a place for it.
-fn answer_next<R: Wait + Clock, D: Desk<R>>(rt: &R, alloc: Global, site: &Site, desk: &mut D)
-    ensures { HasWorked D.answers D.refuses desk.old desk.new }
-{
-    let events = &*site.events;
-    let (stream, peer) = accept(rt, alloc, events, site.number, &site.listener);
-    let log = ClientLog::new(alloc, events, site.number, peer, site.settings.is_verbose);
-    if let Err(turn) = site.places.try_take(rt) {
-        log.log_waiting(rt);
-        site.places.take_in_turn(rt, turn);
-    }
-    answer_one(rt, alloc, site, &log, &stream, desk);
-    drop(stream);
-    site.places.leave(rt);
-}
-
-// Answers one client after another over this desk, until the site takes no more.
-fn answer_clients<R: Wait + Clock, D: Desk<R>, U: Upkeep<R>>(
-    rt: &R,
-    alloc: Global,
-    site: &Site,
-    upkeep: &U,
-    desk: &mut D,
-)
+// Answers the clients of a site over this desk. The last thread that does ends the site's bell.
+pub(crate) fn answer_over<
+    R: Net<Listener = TcpListener, Stream = TcpStream> + Wait + Clock,
+    D: Desk<R>,
+>(rt: &R, alloc: Global, site: &Site, desk: &mut D)
     ensures { HasAnsweredClients D.answers D.refuses desk.old desk.new }
 {
-    for _ in rt.forever() {
-        if site.sessions.is_stopped(rt) || !site.tickets.take(rt) {
-            break;
-        }
-        answer_next(rt, alloc, site, desk);
-        if upkeep.has_failed(rt) {
-            site.stop(rt, upkeep);
-        }
+    let is_last = answer_clients(rt, alloc, &site.clients, desk);
+    if is_last {
+        site.bell.end(rt);
     }
-    site.end_answering(rt, upkeep);
 }
 
 // Answers the clients of a site by this pass.
-fn answer_by<L: SiteLedger, R: Wait + Clock>(
+fn answer_by<L: SiteLedger, R: Net<Listener = TcpListener, Stream = TcpStream> + Wait + Clock>(
     rt: &R,
     alloc: Global,
     site: &Site,
@@ -158,7 +114,7 @@ fn answer_by<L: SiteLedger, R: Wait + Clock>(
     ensures { result.ordinal ≡ pass.ordinal }
 {
     let mut ringing = RingingDesk::new(PassDesk::new(desk, pass), &site.bell);
-    answer_clients(rt, alloc, site, desk, &mut ringing);
+    answer_over(rt, alloc, site, &mut ringing);
     ringing.into_inner().into_pass()
 }
 
@@ -174,30 +130,30 @@ fn send_by<L: SiteLedger, R: Wait + Clock>(
     ensures { pass.new.ordinal ≡ pass.old.ordinal }
 {
     let mut port = DeskPort::new(desk, pass);
-    if send_news(rt, alloc, site, desk, &mut port, links, false).is_err() {
-        site.stop(rt, desk);
-    }
+    // A site without a store has no fault that ends this.
+    let _ = send_news(rt, alloc, site, desk, &mut port, links, false);
 }
 
 // Takes the frames of a peer by this pass.
-fn take_by<L: SiteLedger, R: Wait>(
+fn take_by<'a, L: SiteLedger, R: Wait>(
     rt: &R,
-    site: &Site,
-    desk: &SiteDesk<L>,
+    alloc: Global,
+    site: &'a Site,
+    peer: SiteId,
+    desk: &'a SiteDesk<L>,
     pass: &mut Pass<L>,
-    link: PeerLink<'_, SiteDesk<L>>,
+    link: LinkReceiver,
 )
     ensures { pass.new.ordinal ≡ pass.old.ordinal }
 {
-    let mut link = link;
+    let mut link = PeerLink::new(alloc, site, peer, desk, link, None);
     let mut port = DeskPort::new(desk, pass);
-    if take_news(rt, desk, &mut port, &mut link).is_err() {
-        site.stop(rt, desk);
-    }
+    // A site without a store has no fault that ends this.
+    let _ = take_news(rt, desk, &mut port, &mut link);
     link.give_up(rt);
 }
 
-impl<R: Wait + Clock> Task<Site, R> for SiteTask {
+impl<R: Net<Listener = TcpListener, Stream = TcpStream> + Wait + Clock> Task<Site, R> for SiteTask {
     fn run<L: SiteLedger>(
         self,
         rt: &R,
@@ -210,10 +166,7 @@ impl<R: Wait + Clock> Task<Site, R> for SiteTask {
         match self {
             SiteTask::Answer => pass = answer_by(rt, alloc, shared, desk, pass),
             SiteTask::Send(links) => send_by(rt, alloc, shared, desk, &mut pass, links),
-            SiteTask::Take(peer, link) => {
-                let link = PeerLink::new(alloc, shared, peer, desk, link);
-                take_by(rt, shared, desk, &mut pass, link);
-            }
+            SiteTask::Take(peer, link) => take_by(rt, alloc, shared, peer, desk, &mut pass, link),
         }
         TaskEnd { pass, output: () }
     }

@@ -1,2 +1,4 @@
+pub mod Answering
+pub mod Clients
 pub mod ReadWaits
 pub mod ServedClients

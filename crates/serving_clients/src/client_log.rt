@@ -33,6 +33,8 @@ pub(crate) enum ClientEvent {
     // It waits, since the site answers as many clients as it may.
     Waits,
     NotPrepared(NotPrepared),
+    // There was no memory for its connection.
+    NoMemory,
     LoggedIn,
     LoginFailed,
     // Its session ended with its last try to log in.
@@ -51,6 +53,7 @@ impl fmt::Display for ClientEvent {
             ClientEvent::NotPrepared(NotPrepared { call, error }) => {
                 write!(f, "connection not prepared: {call}: {error}")
             }
+            ClientEvent::NoMemory => write!(f, "connection not prepared: out of memory"),
             ClientEvent::LoggedIn => write!(f, "logged in"),
             ClientEvent::LoginFailed => write!(f, "login failed"),
             ClientEvent::TriesOver => write!(f, "closed after too many failed logins"),
@@ -71,7 +74,10 @@ impl fmt::Display for ClientEvent {
                 )
             }
             ClientEvent::Ended(ServeFault::DeskDown, _) => {
-                write!(f, "session ended: desk down; its last command was not done")
+                write!(
+                    f,
+                    "session ended: desk down; its last command may have been done"
+                )
             }
             ClientEvent::Ended(fault, left) => {
                 write!(

@@ -10,9 +10,9 @@ struct Line {
     next: u64,
 }
 
-/// The turn in which a thread gets a place (this project's own).
+// The turn in which a thread gets a place.
 #[derive(Drop)]
-pub struct Turn {
+pub(crate) struct Turn {
     number: u64,
 }
 
@@ -63,16 +63,16 @@ impl Line {
     }
 }
 
-/// How many clients a site may still answer at once. Threads that wait for a place get one in the order in which they drew their turns, and
-/// none that comes later takes one before them (this project's own).
+// How many clients a site may still answer at once. Threads that wait for a place get one in the order in which they drew their turns, and
+// none that comes later takes one before them.
 #[derive(Drop)]
-pub struct Places {
+pub(crate) struct Places {
     line: Mutex<Line>,
     changed: Condvar,
 }
 
 impl Places {
-    /// This number of places.
+    // This number of places.
     pub fn new(places: u32) -> Places {
         Places {
             line: Mutex::new(Line {
@@ -84,13 +84,13 @@ impl Places {
         }
     }
 
-    /// Takes a place, if one is left and nobody waits. Else returns the caller's turn, with which it must call `take_in_turn`: until it
-    /// has, nobody of a later turn gets a place.
+    // Takes a place, if one is left and nobody waits. Else returns the caller's turn, with which it must call `take_in_turn`: until it
+    // has, nobody of a later turn gets a place.
     pub fn try_take<R: Wait>(&self, rt: &R) -> Result<(), Turn> {
         self.line.lock(rt).try_take()
     }
 
-    /// Waits until a place is left for this turn, and takes it.
+    // Waits until a place is left for this turn, and takes it.
     pub fn take_in_turn<R: Wait>(&self, rt: &R, turn: Turn) {
         let line = self.line.lock(rt);
         let mut line = self
@@ -101,7 +101,7 @@ impl Places {
         self.changed.notify_all();
     }
 
-    /// Gives a place back.
+    // Gives a place back.
     pub fn leave<R: Wait>(&self, rt: &R) {
         self.line.lock(rt).give();
         self.changed.notify_all();

@@ -2,10 +2,10 @@ ghost use Rattle.std.specs.Prelude.{◌≡◌, ◌+◌, ℕ, false, is_none, tru
 
 use std::sync::{Mutex, Wait};
 
-/// How many clients a site still takes. A thread takes a ticket before it waits for a client, so that none waits for a client that it may
-/// not take (this project's own).
+// How many clients a site still takes. A thread takes a ticket before it waits for a client, so that none waits for a client that it may
+// not take.
 #[derive(Drop)]
-pub struct Tickets {
+pub(crate) struct Tickets {
     // Whether there are tickets without end, so that none is counted.
     is_endless: bool,
     left: Mutex<u32>,
@@ -24,7 +24,7 @@ fn take_one(left: &mut u32) -> bool
 }
 
 impl Tickets {
-    /// Tickets for this number of clients, or without end where it is `None`.
+    // Tickets for this number of clients, or without end where it is `None`.
     pub fn new(clients: Option<u32>) -> Tickets
         ensures { result.is_endless ≡ is_none clients }
     {
@@ -34,7 +34,7 @@ impl Tickets {
         }
     }
 
-    /// Takes a ticket. `false`: none is left. Tickets without end always give one; that the others give just their number is tested.
+    // Takes a ticket. `false`: none is left. Tickets without end always give one; that the others give just their number is tested.
     pub fn take<R: Wait>(&self, rt: &R) -> bool
         ensures { self.now.is_endless ≡ true → result ≡ true }
     {

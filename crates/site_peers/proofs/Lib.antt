@@ -1,5 +1,6 @@
 pub mod Frames
 pub mod Items
 pub mod ReceivedItems
+pub mod Results
 pub mod Spreads
 pub mod Turns

@@ -7,7 +7,7 @@ use Rattle.link_stream.specs.declared.item.Item.{Item}
 use Rattle.link_stream.specs.declared.item.Item.TheVariants.{Beat, Frame}
 use Rattle.link_stream.specs.Receiving.{HasRead}
 use Rattle.link_stream.specs.Sequences.{all_tagged}
-use Rattle.link_stream.specs.Tagged.{TaggedState, TakesTagged, tagged}
+use Rattle.link_stream.specs.Tagged.{TaggedState, TakesTagged}
 use Rattle.site_peers.specs.Received.{HasGivenFrame, HasReceived, HasStopped, IsInletCause}
 use Rattle.site_peers.specs.declared.link_inlet.InletFault.{InletFault}
 use Rattle.site_peers.proofs.Items.{tagged_append, tagged_one}

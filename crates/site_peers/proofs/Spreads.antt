@@ -1,11 +1,11 @@
 -- Receipts that a port answers and outboxes are handed, one after another.
-use Rattle.std.proofs.Common.{◌≡◌, ◌∙◌, ◌+◌, ◌<◌, inl, List, [], ◌∷◌, ◌++◌, Option, Some, None, slice_index_or, refl, sym, ap, subst, arith}
+use Rattle.std.proofs.Common.{◌≡◌, ◌∙◌, ◌+◌, ◌<◌, inl, Bool, List, [], ◌∷◌, ◌++◌, Option, Some, None, slice_index_or, refl, sym, ap, subst, arith}
 use Rattle.site_journal.specs.Ports.{PortRun, PortWork}
 use Rattle.site_journal.specs.Receipts.{IsOfCut, IsOfWhole}
 use Rattle.site_journal.specs.declared.desk_fault.DeskFault.{DeskFault}
 use Rattle.site_journal.specs.declared.receipt.Receipt.{Receipt}
 use Rattle.site_pumps.specs.Carried.{EachLink}
-use Rattle.site_peers.specs.Outboxes.{HasSpread, cut_count, deed_count}
+use Rattle.site_peers.specs.Outboxes.{Handing, HasSpread, cut_count, deed_count}
 
 run_on : {P : Type 0} (Makes : P → Receipt → P → Type 0) (xs ys : List Receipt) (p q r : P) → PortRun Makes p xs q → PortRun Makes q ys r → PortRun Makes p (xs ++ ys) r
 run_on Makes [] ys p q r run more = subst (λ x. PortRun Makes x ys r) (sym run) more
@@ -49,13 +49,13 @@ cut_then_none xs ys r cut one other =
     let y : cut_count ys ≡ 0 = ap cut_count other in
     omega (arith, cuts_append xs ys, is, x, y)
 
-module _ {P O : Type 0} (Makes : P → Receipt → P → Type 0) (Refuses : P → DeskFault → P → Type 0) (Handed : O → Receipt → O → Type 0) where
+module _ {P O : Type 0} (Makes : P → Receipt → P → Type 0) (Refuses : P → DeskFault → P → Type 0) (Handed : O → Receipt → Bool → O → Type 0) where
   -- nothing yet
   pub spread_none : (p : P) (all : List O) → HasSpread Makes Refuses Handed p p all all [] None
   spread_none p all = record { work = refl; handed = record { count = refl; each = λ k none low. refl } }
 
   -- a receipt, handed to each
-  pub spread_made : (p q : P) (olds news : List O) (r : Receipt) → Makes p r q → EachLink (λ old new. Handed old r new) olds news → HasSpread Makes Refuses Handed p q olds news (r ∷ []) None
+  pub spread_made : (p q : P) (olds news : List O) (r : Receipt) → Makes p r q → EachLink (λ old new. Handing Handed old r new) olds news → HasSpread Makes Refuses Handed p q olds news (r ∷ []) None
   spread_made p q olds news r made handed = record {
     work = (q, made, refl);
     handed = record { count = handed.count; each = λ k none low. (slice_index_or news k none, handed.each k none low, refl) };
@@ -70,5 +70,5 @@ module _ {P O : Type 0} (Makes : P → Receipt → P → Type 0) (Refuses : P �
       → HasSpread Makes Refuses Handed q r mids news ys fault → HasSpread Makes Refuses Handed p r olds news (xs ++ ys) fault
   spread_more p q r olds mids news xs ys fault one two = record {
     work = work_on Makes Refuses xs ys fault p q r one.work two.work;
-    handed = each_run_on Handed xs ys olds mids news one.handed two.handed;
+    handed = each_run_on (Handing Handed) xs ys olds mids news one.handed two.handed;
   }

@@ -5,4 +5,5 @@ pub mod Received
 pub mod Links
 pub mod Sent
 pub mod Windows
+pub mod Lags
 pub mod Turns

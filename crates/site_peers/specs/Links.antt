@@ -1,6 +1,9 @@
--- What an inlet of a link reads and holds (this project's own).
+-- What an inlet of a link reads and holds, and how many peers a site dials (this project's own).
 use Rattle.link_stream.specs.Tagged.{TaggedState}
+use Rattle.std.specs.Prelude.{ℕ, Option, vec_len}
+use Rattle.site_peers.specs.declared.link_inlet.InletFault.{InletFault}
 use Rattle.site_peers.specs.declared.link_inlet.LinkInlet.{LinkInlet}
+use Rattle.site_peers.specs.declared.peer_links.PeerLinks.{PeerLinks}
 
 -- the source that it reads
 abbrev pub inlet_source : {S A : Type 0} {of_source : _} → LinkInlet S A of_source → S
@@ -9,3 +12,11 @@ inlet_source inlet = inlet.source
 -- what was read and not yet given
 abbrev pub inlet_stream : {S A : Type 0} {of_source : _} → LinkInlet S A of_source → TaggedState
 inlet_stream inlet = inlet.receiver.stream
+
+-- why it gives nothing more, once it gives nothing
+abbrev pub inlet_fault : {S A : Type 0} {of_source : _} → LinkInlet S A of_source → Option InletFault
+inlet_fault inlet = inlet.fault
+
+-- how many peers a site dials
+abbrev pub peer_count : {G : Type 0} → PeerLinks G → ℕ
+peer_count links = vec_len links.peers

@@ -1,5 +1,5 @@
 -- What a link has received (this project's own).
-use Rattle.std.specs.Prelude.{ℕ, ◌≡◌, ◌+◌, Bool, List, Option, [], ◌∷◌, ◌++◌, length, nat_lt, replicate}
+use Rattle.std.specs.Prelude.{ℕ, ◌≡◌, ◌+◌, Bool, IsSomeAnd, List, None, Option, Some, [], ◌∷◌, ◌++◌, length, nat_lt, replicate}
 use Rattle.std.specs.List.{filter}
 use Rattle.std.specs.Io.KnownBytes.{Consumes}
 use Rattle.link_stream.specs.Items.{IsFrame, beat}
@@ -36,6 +36,11 @@ pub record HasStopped (before : Option (List ℕ)) (old : TaggedState) (fault : 
   pub stream : TaggedState
   pub received : HasReceived before left old (replicate beats beat) stream
   pub cause : IsInletCause fault stream ended failed
+
+-- a fault of the caller's has stopped it here, or the link gives nothing more for this fault of its own
+abbrev pub HasEndedAt : {F : Type 0} → Option F → (here left : Option (List ℕ)) → (at stream : TaggedState) → Option InletFault → (ended failed : Bool) → Type 0
+HasEndedAt (Some cause) here left at stream own ended failed = (here ≡ left) × (at ≡ stream)
+HasEndedAt None here left at stream own ended failed = IsSomeAnd own (λ fault. HasStopped here at fault ended failed)
 
 -- a beat has four bytes, and a frame more
 abbrev pub without_beats : List (List ℕ) → List (List ℕ)

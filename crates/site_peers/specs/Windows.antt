@@ -1,5 +1,5 @@
 -- What was written and read of a link, and what of it was acknowledged (this project's own).
-use Rattle.std.specs.Prelude.{ℕ}
+use Rattle.std.specs.Prelude.{ℕ, Option}
 
 -- how many bytes were written, and how many of them the peer has acknowledged
 pub record WindowState : Type 0 where
@@ -10,4 +10,9 @@ pub record WindowState : Type 0 where
 pub record ReadState : Type 0 where
   pub read : ℕ
   pub acknowledged : ℕ
+  pub last : ℕ
+
+-- since when an item is read that isn't whole yet, and when bytes were last read, in milliseconds
+pub record ItemTimeState : Type 0 where
+  pub begun : Option ℕ
   pub last : ℕ

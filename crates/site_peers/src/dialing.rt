@@ -1,14 +1,17 @@
 //! The thread of a site that dials a peer, sends over the link what waits for it, and dials again.
 use crate::clock::{millis, random};
+use crate::closing::close_gently;
+use crate::hello_source::HelloSource;
 use crate::link_queue::LinkQueue;
+use crate::meeting::{end_reason, is_own_refusal};
 use crate::peer_links::Peer;
-use crate::stream_ends::{StreamAcknowledgements, WRITE_WAITS, close_gently, prepare};
+use crate::stream_ends::{StreamAcknowledgements, WRITE_WAITS, prepare};
 use crate::window_sink::WindowSink;
 use crate::{
     BackOff, DialEnd, EndReason, LinkLog, Meeting, OutletFault, PeerLinks, Ring, end_links,
     meet_acceptor, send_items,
 };
-use ami_text::{StdSink, StdSource};
+use ami_text::StdSink;
 use link_hello::{HelloFault, LinkKeys, Refusal};
 use link_stream::{ItemSender, SendFault};
 use std::alloc::Global;
@@ -76,7 +79,7 @@ fn connect<R: Net<Listener = TcpListener, Stream = TcpStream>>(
 }
 
 // Runs the hello over a stream that was dialed.
-fn meet<R: Wait + RandomSource, G: Drop>(
+fn meet<R: Wait + Clock + RandomSource, G: Drop>(
     rt: &R,
     links: &PeerLinks<G>,
     stream: &TcpStream,
@@ -85,7 +88,10 @@ fn meet<R: Wait + RandomSource, G: Drop>(
     if prepare(stream).is_err() || rt.fill_bytes(&mut nonce).is_err() {
         return Err(DialFault::NotPrepared);
     }
-    let mut source = StdSource::new(stream);
+    let Some(now) = millis(rt) else {
+        return Err(DialFault::NotPrepared);
+    };
+    let mut source = HelloSource::new(rt, stream, now);
     let mut sink = StdSink::new(stream).with_waits(WRITE_WAITS);
     let met = meet_acceptor(
         rt,
@@ -102,14 +108,17 @@ fn meet<R: Wait + RandomSource, G: Drop>(
     }
 }
 
-// Sends over a link what waits for its peer, until it falls or the site ends.
+// Sends over a link what waits for its peer, until it falls or the site ends. This number of frames of others had been taken when the
+// peer's queue was opened.
 fn send<R: Wait + Clock + RandomSource, G: Ring<R> + Drop>(
     rt: &R,
     alloc: Global,
     links: &PeerLinks<G>,
+    log: LinkLog<'_>,
     peer: &Peer,
     stream: &TcpStream,
     keys: LinkKeys,
+    taken: u64,
 ) -> DialFault {
     let LinkKeys {
         items,
@@ -120,17 +129,19 @@ fn send<R: Wait + Clock + RandomSource, G: Ring<R> + Drop>(
         drop(acknowledgements);
         return DialFault::NotPrepared;
     };
-    let reader = StreamAcknowledgements::new(rt, alloc, stream, acknowledgements, now);
+    let reader = StreamAcknowledgements::new(rt, alloc, links, peer, stream, acknowledgements, now);
     let mut sink = WindowSink::new(rt, stream, reader);
     let mut sender = ItemSender::new(items);
-    let mut queue = LinkQueue::new(links, peer, now);
+    let mut queue = LinkQueue::new(links, log, peer, taken, now);
     let sent = send_items(rt, &mut queue, &mut sender, &mut sink);
     let fault = sink.fault();
     drop(queue);
     drop(sender);
     drop(sink);
     match (sent, fault) {
-        (Ok(()), _) => DialFault::Ending,
+        (Err(_), Some(OutletFault::Ending)) => DialFault::Ending,
+        (Ok(()), _) if links.ending.reason(rt).is_some() => DialFault::Ending,
+        (Ok(()), _) => DialFault::NotPrepared,
         (Err(_), Some(fault)) => DialFault::Outlet(fault),
         (Err(fault), None) => DialFault::Send(fault),
     }
@@ -141,14 +152,16 @@ fn send_from_queue<R: Wait + Clock + RandomSource, G: Ring<R> + Drop>(
     rt: &R,
     alloc: Global,
     links: &PeerLinks<G>,
+    log: LinkLog<'_>,
     peer: &Peer,
     stream: &TcpStream,
     keys: LinkKeys,
 ) -> DialFault {
+    let taken = links.taken.load(Ordering::SeqCst);
     peer.queue.open(rt);
     links.up.fetch_add(1, Ordering::SeqCst);
     links.bell.ring(rt);
-    let fault = send(rt, alloc, links, peer, stream, keys);
+    let fault = send(rt, alloc, links, log, peer, stream, keys, taken);
     links.up.fetch_sub(1, Ordering::SeqCst);
     peer.queue.close(rt);
     fault
@@ -166,24 +179,23 @@ fn dial_once<
     let Meeting { site, keys } = match meet(rt, links, &stream) {
         Ok(meeting) => meeting,
         Err(fault) => {
-            close_gently(&stream);
+            if matches!(fault, DialFault::Hello(fault) if is_own_refusal(fault)) {
+                close_gently(rt, &stream);
+            }
             drop(stream);
             return (false, fault);
         }
     };
     log.log_up(rt, site, peer.address.as_str());
-    let fault = send_from_queue(rt, alloc, links, peer, &stream, keys);
+    let fault = send_from_queue(rt, alloc, links, log, peer, &stream, keys);
     drop(stream);
     (true, fault)
 }
 
-// Why the site ends where a peer refuses it so.
+// Why the site ends after a connection that has ended by this fault, if it does.
 fn reason_of(fault: DialFault) -> Option<EndReason> {
     match fault {
-        DialFault::Hello(HelloFault::IsRefused(Refusal::TakenNumber)) => {
-            Some(EndReason::TakenNumber)
-        }
-        DialFault::Hello(HelloFault::IsRefused(Refusal::OlderCopy)) => Some(EndReason::OlderCopy),
+        DialFault::Hello(fault) => end_reason(fault),
         _ => None,
     }
 }
@@ -241,10 +253,13 @@ fn dial_until_end<
         log_fault(rt, log, peer, fault, last);
         last = Some(fault);
         if let Some(reason) = reason_of(fault) {
-            end_links(rt, links, reason);
+            end_links(rt, links, log, reason);
         }
-        let was_long = was_up && has_passed(rt, begun, LONG_MILLIS);
-        let pause = back_off.pause(end_of(fault, was_long), random(rt));
+        let end = end_of(fault, was_up && has_passed(rt, begun, LONG_MILLIS));
+        if end == DialEnd::Itself {
+            peer.itself.store(1, Ordering::SeqCst);
+        }
+        let pause = back_off.pause(end, random(rt));
         if links.ending().wait_within(rt, Duration::from_millis(pause)) {
             return;
         }

@@ -1,4 +1,4 @@
-ghost use Rattle.std.specs.Prelude.{◌≡◌, None, Some};
+ghost use Rattle.std.specs.Prelude.{◌≡◌, ◌↔◌, IsTrue, None, Some};
 ghost use Rattle.site_peers.specs.declared.ending.EndReason.{EndReason};
 
 use std::sync::{Condvar, CondvarTimeouts, Mutex, Wait};
@@ -14,22 +14,31 @@ pub enum EndReason {
     /// Another site says of this site's number what this site has not made: the number was used before, or its store is an older copy.
     #[error("another site has frames under this site's number that this site has not made")]
     NotMine,
+    /// Another site has other values under the number of a change that this site knows: the number was used twice, as where a store was lost.
+    #[error("another site has other values under the number of a change of this site")]
+    Conflict,
     /// A peer knows another store with this site's number.
     #[error("the site number belongs to another store")]
     TakenNumber,
     /// A peer has seen a later start of this site's store.
     #[error("the store is an older copy")]
     OlderCopy,
+    /// A commit of its store has failed.
+    #[error("the store has failed")]
+    StoreFailed,
 }
 
-// Gives a reason, where none was given before.
-fn give_first(reason: &mut Option<EndReason>, given: EndReason)
+// Gives a reason, where none was given before. Returns whether none was.
+fn give_first(reason: &mut Option<EndReason>, given: EndReason) -> bool
+    ensures none { IsTrue result ↔ (reason.old ≡ None) }
     ensures first { reason.old ≡ None → reason.new ≡ Some given }
     ensures kept { (was : EndReason) → reason.old ≡ Some was → reason.new ≡ reason.old }
 {
-    if reason.is_none() {
+    let is_first = reason.is_none();
+    if is_first {
         *reason = Some(given);
     }
+    is_first
 }
 
 /// Whether a site ends, and why: the first reason that a thread of it gave. All threads of its links look at it.
@@ -48,12 +57,13 @@ impl Ending {
         }
     }
 
-    /// Ends the site for this reason, if it doesn't end yet.
-    pub fn end<R: Wait>(&self, rt: &R, reason: EndReason) {
+    /// Ends the site for this reason, if it doesn't end yet. Returns whether it didn't.
+    pub fn end<R: Wait>(&self, rt: &R, reason: EndReason) -> bool {
         let mut held = self.reason.lock(rt);
-        give_first(&mut held, reason);
+        let is_first = give_first(&mut held, reason);
         drop(held);
         self.changed.notify_all();
+        is_first
     }
 
     /// Why the site ends. `None`: it doesn't.

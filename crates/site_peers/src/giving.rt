@@ -1,12 +1,13 @@
 //! The calls of an inlet of a link.
-ghost use Rattle.std.specs.Prelude.{◌≡◌, [], false};
-ghost use Rattle.site_peers.specs.Links.{inlet_source, inlet_stream};
+ghost use Rattle.std.specs.Prelude.{◌≡◌, [], None, false};
+ghost use Rattle.site_peers.specs.Links.{inlet_fault, inlet_source, inlet_stream};
 
 use crate::receiving::next_frame;
 use crate::{Acknowledge, InletFault, LinkInlet};
 use ami_text::Source;
 use link_keys::Key;
 use link_stream::ItemReceiver;
+use site_journal::DeskFault;
 use site_pumps::Inlet;
 use std::alloc::Global;
 use std::sync::Wait;
@@ -17,6 +18,7 @@ impl<S: Source + Drop, A: Drop> LinkInlet<S, A> {
         requires { S.failed source ≡ false }
         ensures source { inlet_source result ≡ source }
         ensures stream { inlet_stream result ≡ record { key = key; taken = 0; held = [] } }
+        ensures fault { inlet_fault result ≡ None }
     {
         LinkInlet {
             receiver: ItemReceiver::new(alloc, key),
@@ -27,7 +29,9 @@ impl<S: Source + Drop, A: Drop> LinkInlet<S, A> {
     }
 
     /// Why it gives nothing more, once it gives nothing.
-    pub fn fault(&self) -> Option<InletFault> {
+    pub fn fault(&self) -> Option<InletFault>
+        ensures { result ≡ inlet_fault self.now }
+    {
         self.fault
     }
 
@@ -46,14 +50,15 @@ impl<S: Source + Drop, A: Drop> LinkInlet<S, A> {
 }
 
 impl<R: Wait, S: Source + Drop, A: Acknowledge<R> + Drop> Inlet<R> for LinkInlet<S, A> {
-    ghost use Rattle.std.specs.Prelude.{◌≡◌, IfSome, None};
-    ghost use Rattle.site_peers.specs.Links.{inlet_source, inlet_stream};
+    ghost use Rattle.std.specs.Prelude.{◌≡◌, IsSomeAnd, None};
+    ghost use Rattle.site_peers.specs.Links.{inlet_fault, inlet_source, inlet_stream};
     ghost use Rattle.site_peers.specs.Received.{HasGivenFrame, HasStopped};
 
     ghost gives = { λ old item new. HasGivenFrame (S.left (inlet_source old))
-        (S.left (inlet_source new)) (inlet_stream old) item (inlet_stream new) };
+        (S.left (inlet_source new)) (inlet_stream old) item (inlet_stream new)
+        × (inlet_fault new ≡ None) };
 
-    ghost ends = { λ old new. old.fault ≡ None → IfSome new.fault (λ fault.
+    ghost ends = { λ old new. inlet_fault old ≡ None → IsSomeAnd (inlet_fault new) (λ fault.
         HasStopped (S.left (inlet_source old)) (inlet_stream old) fault
         (S.ended (inlet_source new)) (S.failed (inlet_source new))) };
 
@@ -74,4 +79,17 @@ impl<R: Wait, S: Source + Drop, A: Acknowledge<R> + Drop> Inlet<R> for LinkInlet
             }
         }
     }
+}
+
+// Notes that the site has dropped the last frame of a link, for which it has no room or no memory. The link goes on.
+pub(crate) fn fall_behind<R, S: Source + Drop, A: Acknowledge<R> + Drop>(
+    rt: &R,
+    inlet: &mut LinkInlet<S, A>,
+    fault: DeskFault,
+)
+    ensures source { inlet_source inlet.new ≡ inlet_source inlet.old }
+    ensures stream { inlet_stream inlet.new ≡ inlet_stream inlet.old }
+    ensures fault { inlet_fault inlet.new ≡ inlet_fault inlet.old }
+{
+    inlet.acknowledger.fall_behind(rt, fault);
 }

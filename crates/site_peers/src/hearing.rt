@@ -1,29 +1,24 @@
 //! A thread of a site that accepts links, and lets the site take the frames that come over them.
 ghost use Rattle.std.specs.Prelude.{◌≡◌, List, Option};
-ghost use Rattle.site_journal.specs.Ports.{PortWork};
 ghost use Rattle.site_peers.specs.Turns.{WorksInTurn};
 
 use crate::clock::millis;
+use crate::closing::close_gently;
+use crate::heard_frames::hear_frames;
+use crate::heard_links::HeardPeer;
+use crate::hello_source::HelloSource;
+use crate::meeting::{end_reason, is_own_refusal};
 use crate::peer_links::wake;
-use crate::stream_ends::{
-    SILENT_MILLIS, StreamAcknowledger, WRITE_WAITS, close_gently, has_first_byte, prepare,
-};
-use crate::{
-    EndReason, InletFault, LinkInlet, LinkLog, Meeting, PeerLinks, Ring, end_links, meet_dialer,
-    take_frames,
-};
-use ami_text::{StdSink, StdSource};
-use dots::Memory;
-use link_hello::{HelloFault, LinkKeys, Refusal};
-use link_stream::ReceiveFault;
+use crate::stream_ends::{WRITE_WAITS, has_first_byte, prepare};
+use crate::{EndReason, InletFault, LinkLog, Meeting, PeerLinks, Ring, end_links, meet_dialer};
+use ami_text::StdSink;
+use link_hello::{HelloFault, Refusal};
 use site_journal::{DeskFault, Port, Receipt, TakeFault};
-use site_pumps::{PumpedIn, ReceiptSink};
 use std::alloc::Global;
 use std::io::ErrorKind;
-use std::net::{Net, TcpListener, TcpStream};
+use std::net::{Net, SocketAddr, TcpListener, TcpStream};
 use std::random::RandomSource;
 use std::sync::Wait;
-use std::sync::atomic::{AtomicU64, Ordering};
 use std::thread;
 use std::time::{Clock, Duration};
 use thiserror::Error;
@@ -48,40 +43,22 @@ pub enum HearFault {
     Refused(DeskFault),
 }
 
-// A sink that drops receipts, and counts them.
-struct TakenCount<'a> {
-    taken: &'a AtomicU64,
-}
-
-impl<'a> Drop for TakenCount<'a> {
-    fn drop(self) {
-        let TakenCount { taken: _ } = self;
-    }
-}
-
-impl<'a> ReceiptSink for TakenCount<'a> {
-    ghost use Rattle.std.specs.Prelude.{⊤};
-
-    ghost holds = { λ sink receipts. ⊤ };
-
-    ghost has_room = { λ sink. ⊤ };
-
-    fn prepare(&mut self) -> Result<(), Memory> {
-        Ok(())
-    }
-
-    fn put(&mut self, receipt: Receipt) {
-        drop(receipt);
-        self.taken.fetch_add(1, Ordering::SeqCst);
-    }
-}
-
-// Waits for the next connection. Where the system fails to accept, that is logged once, and tried again every 20 ms.
-fn accept<R: Wait + Clock>(rt: &R, log: LinkLog<'_>, listener: &TcpListener) -> TcpStream {
+// Waits for the next connection. Where the system fails to accept, that is logged once, and tried again every 20 ms. `None`: the site ends.
+fn accept<R: Wait + Clock, G: Drop>(
+    rt: &R,
+    links: &PeerLinks<G>,
+    log: LinkLog<'_>,
+    listener: &TcpListener,
+) -> Option<(TcpStream, SocketAddr)> {
     let mut is_logged = false;
     for _ in rt.forever() {
-        match listener.accept() {
-            Ok((stream, _)) => return stream,
+        let accepted = listener.accept();
+        if links.ending.reason(rt).is_some() {
+            drop(accepted);
+            return None;
+        }
+        match accepted {
+            Ok(connection) => return Some(connection),
             Err(error) if error.kind() == ErrorKind::ConnectionAborted => {}
             Err(error) => {
                 if !is_logged {
@@ -96,7 +73,7 @@ fn accept<R: Wait + Clock>(rt: &R, log: LinkLog<'_>, listener: &TcpListener) -> 
 }
 
 // Runs the hello over a stream that was accepted.
-fn meet<R: Wait + RandomSource, G: Drop>(
+fn meet<R: Wait + Clock + RandomSource, G: Drop>(
     rt: &R,
     links: &PeerLinks<G>,
     stream: &TcpStream,
@@ -105,7 +82,10 @@ fn meet<R: Wait + RandomSource, G: Drop>(
     if prepare(stream).is_err() || rt.fill_bytes(&mut nonce).is_err() {
         return Err(HearFault::NotPrepared);
     }
-    let mut source = StdSource::new(stream);
+    let Some(now) = millis(rt) else {
+        return Err(HearFault::NotPrepared);
+    };
+    let mut source = HelloSource::new(rt, stream, now);
     let mut sink = StdSink::new(stream).with_waits(WRITE_WAITS);
     let met = meet_dialer(
         rt,
@@ -122,61 +102,6 @@ fn meet<R: Wait + RandomSource, G: Drop>(
     }
 }
 
-// Lets the site take the frames of a link, until it ends or a frame is refused.
-fn hear_frames<R: Wait + Clock, G: Drop, P: Port<R>>(
-    rt: &R,
-    alloc: Global,
-    links: &PeerLinks<G>,
-    stream: &TcpStream,
-    keys: LinkKeys,
-    port: &mut P,
-) -> HearFault
-    ensures work { (receipts : List Receipt) × (fault : Option DeskFault)
-        × PortWork P.makes P.refuses port.old receipts fault port.new }
-    ensures ordinal { P.ordinal port.new ≡ P.ordinal port.old }
-{
-    let LinkKeys {
-        items,
-        acknowledgements,
-    } = keys;
-    let wait = Duration::from_millis(SILENT_MILLIS);
-    let (Some(now), Ok(())) = (millis(rt), stream.set_read_timeout(Some(wait))) else {
-        drop(items);
-        drop(acknowledgements);
-        return HearFault::NotPrepared;
-    };
-    let acknowledger = StreamAcknowledger::new(stream, &links.ending, acknowledgements, now);
-    let source = StdSource::new(stream);
-    let mut inlet = LinkInlet::new(alloc, items, source, acknowledger);
-    let mut count = TakenCount {
-        taken: &links.taken,
-    };
-    let PumpedIn { fault, refused } = take_frames(rt, port, &mut inlet, &mut count);
-    drop(refused);
-    drop(count);
-    end_of(inlet, fault)
-}
-
-// Why a link has ended whose pump has ended by this fault of the port. The peer learns that a frame was refused.
-fn end_of(
-    inlet: LinkInlet<StdSource<&TcpStream>, StreamAcknowledger<'_>>,
-    fault: Option<DeskFault>,
-) -> HearFault {
-    match fault {
-        Some(fault) => {
-            let mut acknowledger = inlet.into_acknowledger();
-            acknowledger.refuse();
-            drop(acknowledger);
-            HearFault::Refused(fault)
-        }
-        None => {
-            let fault = inlet.fault();
-            drop(inlet);
-            HearFault::Inlet(fault.unwrap_or(InletFault::Receive(ReceiveFault::Ended)))
-        }
-    }
-}
-
 // Whether this site is the one that was dialed by itself: then nothing is logged.
 fn is_itself(fault: HearFault) -> bool {
     matches!(
@@ -185,38 +110,118 @@ fn is_itself(fault: HearFault) -> bool {
     )
 }
 
-// Hears one link, from its hello to its end.
-fn hear_link<
-    R: Net<Listener = TcpListener, Stream = TcpStream> + Wait + Clock + RandomSource,
-    G: Ring<R> + Drop,
-    P: Port<R>,
->(rt: &R, alloc: Global, links: &PeerLinks<G>, log: LinkLog<'_>, stream: &TcpStream, port: &mut P)
-    ensures work { (receipts : List Receipt) × (fault : Option DeskFault)
-        × PortWork P.makes P.refuses port.old receipts fault port.new }
+// Why the site ends after a link that has ended by this fault, if it does.
+fn reason_of(fault: HearFault) -> Option<EndReason> {
+    match fault {
+        HearFault::Hello(fault) => end_reason(fault),
+        HearFault::Refused(DeskFault::Take(TakeFault::NotMine)) => Some(EndReason::NotMine),
+        HearFault::Refused(DeskFault::Take(TakeFault::Conflict)) => Some(EndReason::Conflict),
+        _ => None,
+    }
+}
+
+// Whether a link has ended by a refusal of this site, which the peer must learn.
+fn is_refusal(fault: HearFault) -> bool {
+    match fault {
+        HearFault::Hello(fault) => is_own_refusal(fault),
+        HearFault::Refused(_) => true,
+        HearFault::NotPrepared | HearFault::Inlet(_) => false,
+    }
+}
+
+// Logs why a connection has led to no link, unless the last one from its address had the same cause.
+fn log_refused<R: Wait, G: Drop>(
+    rt: &R,
+    links: &PeerLinks<G>,
+    log: LinkLog<'_>,
+    address: &SocketAddr,
+    fault: HearFault,
+) {
+    if !is_itself(fault) && links.heard.note_cause(rt, address.ip(), fault) {
+        log.log_refused(rt, address, fault);
+    }
+}
+
+// Hears one link, from its hello to its end. Returns why it has ended.
+fn hear_link<R: Wait + Clock + RandomSource, G: Drop, P: Port<R>>(
+    rt: &R,
+    alloc: Global,
+    links: &PeerLinks<G>,
+    log: LinkLog<'_>,
+    stream: &TcpStream,
+    address: SocketAddr,
+    port: &mut P,
+) -> HearFault
+    ensures works { (works : List (List Receipt × Option DeskFault))
+        × WorksInTurn P.makes P.refuses port.old works port.new }
     ensures ordinal { P.ordinal port.new ≡ P.ordinal port.old }
 {
     let Meeting { site, keys } = match meet(rt, links, stream) {
         Ok(meeting) => meeting,
         Err(fault) => {
-            if !is_itself(fault) {
-                log.log_refused(rt, fault);
-            }
-            return;
+            log_refused(rt, links, log, &address, fault);
+            return fault;
         }
     };
-    log.log_heard(rt, site);
-    let fault = hear_frames(rt, alloc, links, stream, keys, port);
-    if links.ending().reason(rt).is_none() {
-        log.log_lost(rt, site, fault);
+    let peer = HeardPeer { site, address };
+    links.heard.forget_cause(rt, address.ip());
+    log.log_heard(rt, &peer);
+    let fault = hear_frames(rt, alloc, links, log, stream, &peer, keys, port);
+    if links.ending.reason(rt).is_none() {
+        log.log_lost(rt, &peer, fault);
     }
-    if fault == HearFault::Refused(DeskFault::Take(TakeFault::NotMine)) {
-        end_links(rt, links, EndReason::NotMine);
+    fault
+}
+
+// Ends the site after a link that has ended by this fault, if it must end; and closes the link's stream.
+fn end_link<R: Net<Listener = TcpListener, Stream = TcpStream> + Wait + Clock, G: Ring<R> + Drop>(
+    rt: &R,
+    links: &PeerLinks<G>,
+    log: LinkLog<'_>,
+    stream: TcpStream,
+    fault: HearFault,
+) {
+    if let Some(reason) = reason_of(fault) {
+        end_links(rt, links, log, reason);
     }
+    if is_refusal(fault) {
+        close_gently(rt, &stream);
+    }
+    drop(stream);
+}
+
+// Hears one connection, if a first byte comes over it in time.
+fn hear_connection<
+    R: Net<Listener = TcpListener, Stream = TcpStream> + Wait + Clock + RandomSource,
+    G: Ring<R> + Drop,
+    P: Port<R>,
+>(
+    rt: &R,
+    alloc: Global,
+    links: &PeerLinks<G>,
+    log: LinkLog<'_>,
+    stream: TcpStream,
+    address: SocketAddr,
+    port: &mut P,
+)
+    ensures works { (works : List (List Receipt × Option DeskFault))
+        × WorksInTurn P.makes P.refuses port.old works port.new }
+    ensures ordinal { P.ordinal port.new ≡ P.ordinal port.old }
+{
+    if !has_first_byte(&stream) {
+        drop(stream);
+        return;
+    }
+    let fault = hear_link(rt, alloc, links, log, &stream, address, port);
+    end_link(rt, links, log, stream, fault);
 }
 
 /// Accepts one connection after another at a listener, and lets the site take the frames that come over each, by this port, until the
-/// site ends. A frame that the port refuses ends its link, and `NotMine` the site. A connection over which nothing comes for 0.5 seconds is
-/// closed. Lines are logged when a link is up and when it is down, and when a hello leads to none.
+/// site ends. Where the port lacks room or memory for a frame, the frame is dropped, and the peer is asked for a whole each 5 seconds until
+/// the site has caught up. Any other frame that the port refuses ends its link; `NotMine` and `Conflict` end the site, as does a peer that
+/// refuses it as `TakenNumber` or `OlderCopy`. A connection is closed over which nothing comes for 0.5 seconds, or no whole hello for 3. Lines
+/// are logged when a link is up and when it is down, when the site falls behind a peer and when it has caught up, and when a connection leads
+/// to no link for another cause than the last one from its address.
 pub fn hear_peers<
     R: Net<Listener = TcpListener, Stream = TcpStream> + Wait + Clock + RandomSource,
     G: Ring<R> + Drop,
@@ -235,16 +240,10 @@ pub fn hear_peers<
     ensures ordinal { P.ordinal port.new ≡ P.ordinal port.old }
 {
     for _ in rt.forever() {
-        let stream = accept(rt, log, listener);
-        if links.ending().reason(rt).is_some() {
-            drop(stream);
+        let Some((stream, address)) = accept(rt, links, log, listener) else {
             break;
-        }
-        if has_first_byte(&stream) {
-            hear_link(rt, alloc, links, log, &stream, port);
-            close_gently(&stream);
-        }
-        drop(stream);
+        };
+        hear_connection(rt, alloc, links, log, stream, address, port);
     }
     wake(rt, &links.own);
 }

@@ -5,13 +5,20 @@
 //! [`take_frames`]. These loops are proved over any queue, source and sink; sockets stand below them.
 #![tactic(auto)]
 
+mod acknowledging;
 mod back_off;
 mod clock;
+mod closing;
 mod dialing;
 mod ending;
 mod giving;
+mod heard_frames;
+mod heard_links;
 mod hearing;
+mod hello_source;
 mod item_queue;
+mod item_time;
+mod lag;
 pub mod laws;
 mod link_inlet;
 mod link_log;
@@ -36,7 +43,9 @@ pub use dialing::{DialFault, dial_peer};
 pub use ending::{EndReason, Ending};
 pub use hearing::{HearFault, hear_peers};
 pub use item_queue::ItemQueue;
-pub use link_inlet::{Acknowledge, InletFault, LinkInlet};
+pub use item_time::ItemTime;
+pub use lag::{Lag, LagStep};
+pub use link_inlet::{Acknowledge, AcknowledgeFault, InletFault, LinkInlet};
 pub use link_log::LinkLog;
 pub use meeting::{Meeting, meet_acceptor, meet_dialer};
 pub use outbox::Outbox;

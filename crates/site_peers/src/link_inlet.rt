@@ -2,7 +2,25 @@ ghost use Rattle.std.specs.Prelude.{◌≡◌, None, false};
 
 use ami_text::Source;
 use link_stream::{ItemReceiver, ReceiveFault, SendFault};
+use site_journal::DeskFault;
 use thiserror::Error;
+
+/// Why what acknowledges the bytes of a link ends it (this project's own).
+#[derive(Clone, Copy, Debug, PartialEq, Eq, Error)]
+pub enum AcknowledgeFault {
+    /// What was read could not be acknowledged.
+    #[error("not acknowledged: {0}")]
+    NotSent(SendFault),
+    /// An item isn't whole 60 seconds after it was begun.
+    #[error("an item takes more than 60 s")]
+    Late,
+    /// The clock could not be read.
+    #[error("no clock")]
+    NoClock,
+    /// The site ends.
+    #[error("the site ends")]
+    Ending,
+}
 
 /// Why a link gives no frame any more (this project's own).
 #[derive(Clone, Copy, Debug, PartialEq, Eq, Error)]
@@ -10,15 +28,21 @@ pub enum InletFault {
     /// The receiver gives nothing more.
     #[error("{0}")]
     Receive(ReceiveFault),
-    /// What was read could not be acknowledged.
-    #[error("not acknowledged: {0}")]
-    Acknowledge(SendFault),
+    /// What acknowledges its bytes has ended the link.
+    #[error("{0}")]
+    Acknowledge(AcknowledgeFault),
 }
 
 /// What acknowledges the bytes that are read of a link (this project's own).
 pub trait Acknowledge<R> {
     /// Is called after each read that gave bytes, with their number. An error ends the link.
-    fn after_read(&mut self, rt: &R, count: usize) -> Result<(), SendFault>;
+    fn after_read(&mut self, rt: &R, count: usize) -> Result<(), AcknowledgeFault>;
+
+    /// Is called after each item, a frame or a beat, with how many bytes are held that were read after it.
+    fn after_item(&mut self, is_frame: bool, held: usize);
+
+    /// Is called where the site has dropped the last frame, for which it has no room or no memory.
+    fn fall_behind(&mut self, rt: &R, fault: DeskFault);
 }
 
 /// The end of a link that receives, over a source of its bytes: an inlet that gives the frames whose tags are right, in order. It passes

@@ -1,10 +1,14 @@
 //! The lines that are logged of a site's links.
+use crate::EndReason;
 use crate::dialing::DialFault;
+use crate::heard_links::HeardPeer;
 use crate::hearing::HearFault;
 use dots::SiteId;
 use event_log::EventLog;
+use site_journal::DeskFault;
 use std::alloc::Global;
 use std::io;
+use std::net::SocketAddr;
 use std::sync::Wait;
 
 /// Where the events of a site's links are logged.
@@ -44,26 +48,64 @@ impl<'a> LinkLog<'a> {
         self.events.add(rt, line);
     }
 
-    // A link from a peer is up.
-    pub(crate) fn log_heard<R: Wait>(&self, rt: &R, peer: SiteId) {
-        let (site, peer) = (self.site, peer.number());
-        let line = format!(in self.alloc; "queue_sites: site {site}: link from site {peer}: up");
-        self.events.add(rt, line);
-    }
-
-    // A link from a peer has fallen.
-    pub(crate) fn log_lost<R: Wait>(&self, rt: &R, peer: SiteId, fault: HearFault) {
-        let (site, peer) = (self.site, peer.number());
+    // Memory was refused for what waits for the peer at this address.
+    pub(crate) fn log_no_memory<R: Wait>(&self, rt: &R, address: &str) {
+        let site = self.site;
         let line = format!(in self.alloc;
-            "queue_sites: site {site}: link from site {peer}: down: {fault}"
+            "queue_sites: site {site}: link to {address}: out of memory for what waits"
         );
         self.events.add(rt, line);
     }
 
-    // A connection has led to no link.
-    pub(crate) fn log_refused<R: Wait>(&self, rt: &R, fault: HearFault) {
+    // A link from a peer is up.
+    pub(crate) fn log_heard<R: Wait>(&self, rt: &R, peer: &HeardPeer) {
+        let (site, number, address) = (self.site, peer.site.number(), peer.address);
+        let line = format!(in self.alloc;
+            "queue_sites: site {site}: link from site {number} at {address}: up"
+        );
+        self.events.add(rt, line);
+    }
+
+    // A link from a peer has fallen.
+    pub(crate) fn log_lost<R: Wait>(&self, rt: &R, peer: &HeardPeer, fault: HearFault) {
+        let (site, number, address) = (self.site, peer.site.number(), peer.address);
+        let line = format!(in self.alloc;
+            "queue_sites: site {site}: link from site {number} at {address}: down: {fault}"
+        );
+        self.events.add(rt, line);
+    }
+
+    // A frame of a peer was dropped: the site is behind it.
+    pub(crate) fn log_behind<R: Wait>(&self, rt: &R, peer: &HeardPeer, fault: DeskFault) {
+        let (site, number, address) = (self.site, peer.site.number(), peer.address);
+        let line = format!(in self.alloc;
+            "queue_sites: site {site}: behind site {number} at {address}: {fault}"
+        );
+        self.events.add(rt, line);
+    }
+
+    // The site has caught up with a peer.
+    pub(crate) fn log_caught_up<R: Wait>(&self, rt: &R, peer: &HeardPeer) {
+        let (site, number, address) = (self.site, peer.site.number(), peer.address);
+        let line = format!(in self.alloc;
+            "queue_sites: site {site}: caught up with site {number} at {address}"
+        );
+        self.events.add(rt, line);
+    }
+
+    // A connection from this address has led to no link.
+    pub(crate) fn log_refused<R: Wait>(&self, rt: &R, address: &SocketAddr, fault: HearFault) {
         let site = self.site;
-        let line = format!(in self.alloc; "queue_sites: site {site}: a link was refused: {fault}");
+        let line = format!(in self.alloc;
+            "queue_sites: site {site}: no link from {address}: {fault}"
+        );
+        self.events.add(rt, line);
+    }
+
+    // The site ends.
+    pub(crate) fn log_end<R: Wait>(&self, rt: &R, reason: EndReason) {
+        let site = self.site;
+        let line = format!(in self.alloc; "queue_sites: site {site}: ends: {reason}");
         self.events.add(rt, line);
     }
 

@@ -1,7 +1,7 @@
 //! What a link over TCP has to send: a beat each second, and what waits for its peer.
 use crate::clock::{millis, random};
 use crate::peer_links::Peer;
-use crate::{ItemQueue, PeerLinks, Ring};
+use crate::{EndReason, ItemQueue, LinkLog, PeerLinks, Ring};
 use link_stream::Item;
 use std::random::RandomSource;
 use std::sync::Wait;
@@ -15,38 +15,51 @@ const BEAT_MILLIS: u64 = 1_000;
 const MOST_LINKS: u64 = 64;
 
 // What a link has to send: a beat each second, and what waits for its peer. Each n/2 to 3n/2 seconds, where n links of the site are up, it
-// asks for a whole if frames of others were taken since it last did.
+// asks for a whole if frames of others were taken since it last did. At each beat it rings the bell while its peer wants a whole.
 pub(crate) struct LinkQueue<'a, G: Drop> {
     links: &'a PeerLinks<G>,
+    log: LinkLog<'a>,
     peer: &'a Peer,
     // When the next beat is due, and when a whole may be asked for.
     beat: u64,
     whole: u64,
     // How many frames of others had been taken when a whole was last asked for.
     taken: u64,
+    // Whether it is logged that memory is lacking for what waits.
+    is_logged: bool,
 }
 
 impl<'a, G: Drop> Drop for LinkQueue<'a, G> {
     fn drop(self) {
         let LinkQueue {
             links: _,
+            log: _,
             peer: _,
             beat: _,
             whole: _,
             taken: _,
+            is_logged: _,
         } = self;
     }
 }
 
 impl<'a, G: Drop> LinkQueue<'a, G> {
-    // The queue of a link that is up since this time.
-    pub fn new(links: &'a PeerLinks<G>, peer: &'a Peer, now: u64) -> LinkQueue<'a, G> {
+    // The queue of a link that is up since this time, and for whose first whole this number of frames of others had been taken.
+    pub fn new(
+        links: &'a PeerLinks<G>,
+        log: LinkLog<'a>,
+        peer: &'a Peer,
+        taken: u64,
+        now: u64,
+    ) -> LinkQueue<'a, G> {
         LinkQueue {
             links,
+            log,
             peer,
             beat: now,
             whole: now.saturating_add(BEAT_MILLIS),
-            taken: links.taken.load(Ordering::SeqCst),
+            taken,
+            is_logged: false,
         }
     }
 }
@@ -66,7 +79,33 @@ fn ask_whole<R: Wait + RandomSource, G: Ring<R> + Drop>(
     queue.taken = taken;
     queue.whole = now.saturating_add(wait);
     queue.peer.queue.ask_whole(rt);
-    queue.links.bell.ring(rt);
+}
+
+// Rings the bell if a whole is to be made for the peer. That memory is lacking is logged once, until it is lacking no more.
+fn ring_for_whole<R: Wait, G: Ring<R> + Drop>(rt: &R, queue: &mut LinkQueue<'_, G>) {
+    let lacks_memory = queue.peer.queue.lacks_memory(rt);
+    if lacks_memory && !queue.is_logged {
+        queue.log.log_no_memory(rt, queue.peer.address.as_str());
+    }
+    queue.is_logged = lacks_memory;
+    if queue.peer.queue.wants_whole(rt) {
+        queue.links.bell.ring(rt);
+    }
+}
+
+// What a site that ends still sends: what waits, if it was asked to end, else nothing.
+fn last_item<R: Wait + Clock, G: Drop>(
+    rt: &R,
+    queue: &mut LinkQueue<'_, G>,
+    reason: EndReason,
+) -> Option<Item> {
+    if reason != EndReason::Asked {
+        return None;
+    }
+    match queue.peer.queue.take_within(rt, Duration::ZERO) {
+        Some(frame) => Some(Item::Frame(frame)),
+        None => None,
+    }
 }
 
 impl<'a, R: Wait + Clock + RandomSource, G: Ring<R> + Drop> ItemQueue<R> for LinkQueue<'a, G> {
@@ -78,13 +117,14 @@ impl<'a, R: Wait + Clock + RandomSource, G: Ring<R> + Drop> ItemQueue<R> for Lin
 
     fn next_item(&mut self, rt: &R) -> Option<Item> {
         for _ in rt.forever() {
-            if self.links.ending.reason(rt).is_some() {
-                return None;
+            if let Some(reason) = self.links.ending.reason(rt) {
+                return last_item(rt, self, reason);
             }
             let now = millis(rt)?;
             if now >= self.beat {
                 self.beat = now.saturating_add(BEAT_MILLIS);
                 ask_whole(rt, self, now);
+                ring_for_whole(rt, self);
                 return Some(Item::Beat);
             }
             let wait = Duration::from_millis(self.beat - now);

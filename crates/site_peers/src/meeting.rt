@@ -1,11 +1,13 @@
 //! The hello of a link over any source and sink: both sites' cards are judged by this site's roll.
-ghost use Rattle.std.specs.Prelude.{◌≡◌, IfOk, OnOk, false};
+ghost use Rattle.std.specs.Prelude.{◌≡◌, ◌⊎◌, IfOk, IfSome, OnOk, Some, false};
 ghost use Rattle.site_peers.specs.Meetings.{HasBeenDialed, HasDialed};
 
-use crate::SharedRoll;
+use crate::{EndReason, SharedRoll};
 use ami_text::{Sink, Source};
 use dots::SiteId;
-use link_hello::{Card, HelloFault, LinkKeys, accept_hello, begin_hello, end_hello, give_verdict};
+use link_hello::{
+    Card, HelloFault, LinkKeys, Refusal, accept_hello, begin_hello, end_hello, give_verdict,
+};
 use link_keys::Key;
 use std::sync::Wait;
 
@@ -16,6 +18,27 @@ pub struct Meeting {
     pub site: SiteId,
     /// The keys of the link.
     pub keys: LinkKeys,
+}
+
+// Whether this site has written a refusal to the peer before a hello ended by this fault.
+pub(crate) fn is_own_refusal(fault: HelloFault) -> bool {
+    matches!(fault, HelloFault::Refuses(_) | HelloFault::WrongSecret)
+}
+
+// Why the site ends after a hello that has ended by this fault, if it does: the peer has refused it so.
+pub(crate) fn end_reason(fault: HelloFault) -> Option<EndReason>
+    ensures taken { fault ≡ HelloFault.IsRefused Refusal.TakenNumber
+        → result ≡ Some EndReason.TakenNumber }
+    ensures older { fault ≡ HelloFault.IsRefused Refusal.OlderCopy
+        → result ≡ Some EndReason.OlderCopy }
+    ensures only { IfSome result (λ _. (fault ≡ HelloFault.IsRefused Refusal.TakenNumber)
+        ⊎ (fault ≡ HelloFault.IsRefused Refusal.OlderCopy)) }
+{
+    match fault {
+        HelloFault::IsRefused(Refusal::TakenNumber) => Some(EndReason::TakenNumber),
+        HelloFault::IsRefused(Refusal::OlderCopy) => Some(EndReason::OlderCopy),
+        _ => None,
+    }
 }
 
 /// Runs the hello of the site that dials. At Ok the peer's card came with the code of the secret and was admitted by the roll, the peer has

@@ -9,19 +9,14 @@ pub trait Outbox<R> {
     ghost use Rattle.std.specs.Prelude.{Bool};
     ghost use Rattle.site_journal.specs.declared.receipt.Receipt.{Receipt};
 
-    /// `handed old receipt new`: the outbox is handed the receipt of a cut or a whole, which leads it from `old` to `new`.
-    ghost handed: { Self → Receipt → Self → Type 0 };
+    /// `handed old receipt wants new`: the outbox is handed the receipt of a cut or a whole, which leads it from `old` to `new`, and says
+    /// whether it wants a whole.
+    ghost handed: { Self → Receipt → Bool → Self → Type 0 };
 
-    /// `says outbox wants`: the outbox says whether it wants a whole.
-    ghost says: { Self → Bool → Type 0 };
-
-    /// Hands it a receipt. The frame of a cut waits for the peer, and a whole does if it is wanted. It never waits for the peer.
-    fn hand(&mut self, rt: &R, receipt: &Receipt)
-        ensures { handed self.old receipt.now self.new };
-
-    /// Whether a whole is to be made for the peer.
-    fn wants_whole(&self, rt: &R) -> bool
-        ensures { says self.now result };
+    /// Hands it a receipt. The frame of a cut waits for the peer, and a whole does if it is wanted. It never waits for the peer. Returns
+    /// whether the outbox then wants a whole: one that is made after this call is for its peer.
+    fn hand(&mut self, rt: &R, receipt: &Receipt) -> bool
+        ensures { handed self.old receipt.now result self.new };
 }
 
 // Puts a frame. Where memory is refused a whole is due in its place.
@@ -39,23 +34,16 @@ fn give_whole(queue: &mut SendQueue, whole: &[u8])
 }
 
 impl<R> Outbox<R> for SendQueue {
-    ghost use Rattle.std.specs.Prelude.{◌≡◌, ◌⊎◌, ◌↔◌, IsTrue, true};
     ghost use Rattle.site_peers.specs.Outboxes.{IsHanded};
 
-    ghost handed = { λ old receipt new. IsHanded old receipt.deed new };
+    ghost handed = { λ old receipt wants new. IsHanded old receipt.deed wants new };
 
-    ghost says = { λ queue wants. IsTrue wants ↔ ((queue.box.is_open ≡ true)
-        × ((queue.box.whole_due ≡ true) ⊎ (queue.asked ≡ true))) };
-
-    fn hand(&mut self, _rt: &R, receipt: &Receipt) {
+    fn hand(&mut self, _rt: &R, receipt: &Receipt) -> bool {
         match &receipt.deed {
             StepDeed::Cut(Some(frame)) => put_frame(self, frame.as_slice()),
             StepDeed::Whole(whole) => give_whole(self, whole.as_slice()),
             _ => {}
         }
-    }
-
-    fn wants_whole(&self, _rt: &R) -> bool {
-        SendQueue::wants_whole(self)
+        self.begin_whole()
     }
 }

@@ -1,13 +1,15 @@
-ghost use Rattle.std.specs.Prelude.{◌≡◌};
+ghost use Rattle.std.specs.Prelude.{◌≡◌, IfOk, vec_len};
+ghost use Rattle.site_peers.specs.Links.{peer_count};
 
-use crate::{EndReason, Ending, SharedOutbox, SharedQueue, SharedRoll};
+use crate::heard_links::HeardLinks;
+use crate::{EndReason, Ending, LinkLog, SharedOutbox, SharedQueue, SharedRoll};
 use dots::{Memory, SiteId};
 use link_hello::Card;
 use link_keys::Key;
 use std::alloc::Global;
 use std::net::{Net, SocketAddr, TcpListener, TcpStream};
 use std::sync::Wait;
-use std::sync::atomic::AtomicU64;
+use std::sync::atomic::{AtomicU64, Ordering};
 use std::time::Duration;
 
 // How long a connection to the site's own port may take, in milliseconds.
@@ -27,6 +29,8 @@ pub trait Ring<R> {
 pub(crate) struct Peer {
     pub address: String,
     pub queue: SharedQueue,
+    // 1 if it is known to be the site itself, else 0.
+    pub itself: AtomicU64,
 }
 
 /// What the threads of a site share for its links: who the site is, the peers that it dials, what waits for them, and whether it ends.
@@ -45,21 +49,50 @@ pub struct PeerLinks<G: Drop> {
     pub(crate) taken: AtomicU64,
     // How many links that send are up.
     pub(crate) up: AtomicU64,
+    // What is known of the links over which it takes frames.
+    pub(crate) heard: HeardLinks,
 }
 
 // The peers of these addresses, of each of which at most `limit` bytes of frames wait.
-fn peers_of(alloc: Global, addresses: Vec<String>, limit: usize) -> Result<Vec<Peer>, Memory> {
+fn peers_of(alloc: Global, addresses: Vec<String>, limit: usize) -> Result<Vec<Peer>, Memory>
+    ensures { IfOk result (λ peers. vec_len peers ≡ vec_len addresses) }
+{
     let mut peers = Vec::new(alloc);
     for address in addresses {
         let peer = Peer {
             address,
             queue: SharedQueue::new(alloc, limit),
+            itself: AtomicU64::new(0),
         };
         if peers.push(peer).is_err() {
             return Err(Memory);
         }
     }
     Ok(peers)
+}
+
+// Those peers, and room for what is known of links.
+fn parts_of(
+    alloc: Global,
+    addresses: Vec<String>,
+    limit: usize,
+) -> Result<(Vec<Peer>, HeardLinks), Memory>
+    ensures { IfOk result (λ (peers, _). vec_len peers ≡ vec_len addresses) }
+{
+    let heard = match HeardLinks::new(alloc) {
+        Ok(heard) => heard,
+        Err(_) => {
+            drop(addresses);
+            return Err(Memory);
+        }
+    };
+    match peers_of(alloc, addresses, limit) {
+        Ok(peers) => Ok((peers, heard)),
+        Err(_) => {
+            drop(heard);
+            Err(Memory)
+        }
+    }
 }
 
 impl<G: Drop> PeerLinks<G> {
@@ -74,9 +107,11 @@ impl<G: Drop> PeerLinks<G> {
         bell: G,
         addresses: Vec<String>,
         limit: usize,
-    ) -> Result<PeerLinks<G>, Memory> {
-        let peers = match peers_of(alloc, addresses, limit) {
-            Ok(peers) => peers,
+    ) -> Result<PeerLinks<G>, Memory>
+        ensures { IfOk result (λ links. peer_count links ≡ vec_len addresses) }
+    {
+        let (peers, heard) = match parts_of(alloc, addresses, limit) {
+            Ok(parts) => parts,
             Err(_) => {
                 drop(key);
                 drop(bell);
@@ -94,12 +129,32 @@ impl<G: Drop> PeerLinks<G> {
             peers,
             taken: AtomicU64::new(0),
             up: AtomicU64::new(0),
+            heard,
         })
     }
 
     /// How many peers it dials.
-    pub fn peer_count(&self) -> usize {
+    pub fn peer_count(&self) -> usize
+        ensures { result ≡ peer_count self.now }
+    {
         self.peers.len()
+    }
+
+    /// Of how many sites a frame was taken since the launch. The first frame of a link is a whole.
+    pub fn taken_count<R: Wait>(&self, rt: &R) -> usize {
+        self.heard.taken_count(rt)
+    }
+
+    /// Whether it dials more peers than those of which a frame was taken since the launch. A peer that has turned out to be the site itself
+    /// doesn't count.
+    pub fn awaits_peers<R: Wait>(&self, rt: &R) -> bool {
+        let mut others: usize = 0;
+        for peer in &self.peers {
+            if peer.itself.load(Ordering::SeqCst) == 0 {
+                others = others.saturating_add(1);
+            }
+        }
+        self.taken_count(rt) < others
     }
 
     /// Whether the site ends, and why.
@@ -113,7 +168,9 @@ impl<G: Drop> PeerLinks<G> {
     }
 
     /// An outbox for each peer, in the order of their addresses. Error: `Memory`.
-    pub fn outboxes(&self, alloc: Global) -> Result<Vec<SharedOutbox<'_>>, Memory> {
+    pub fn outboxes(&self, alloc: Global) -> Result<Vec<SharedOutbox<'_>>, Memory>
+        ensures { IfOk result (λ outboxes. vec_len outboxes ≡ peer_count self.now) }
+    {
         let mut outboxes = Vec::new(alloc);
         for peer in &self.peers {
             if outboxes.push(SharedOutbox::new(&peer.queue)).is_err() {
@@ -130,13 +187,17 @@ pub(crate) fn wake<R: Net<Listener = TcpListener, Stream = TcpStream>>(rt: &R, o
     drop(TcpStream::connect_timeout(rt, own, wait));
 }
 
-/// Ends a site for this reason, if it doesn't end yet, and wakes the threads of its links: each ends.
+/// Ends a site for this reason, if it doesn't end yet, and wakes the threads of its links: each ends. The first reason is logged, in one
+/// line.
 pub fn end_links<R: Net<Listener = TcpListener, Stream = TcpStream> + Wait, G: Ring<R> + Drop>(
     rt: &R,
     links: &PeerLinks<G>,
+    log: LinkLog<'_>,
     reason: EndReason,
 ) {
-    links.ending.end(rt, reason);
+    if links.ending.end(rt, reason) {
+        log.log_end(rt, reason);
+    }
     links.bell.end(rt);
     wake(rt, &links.own);
 }

@@ -58,8 +58,11 @@ pub(crate) fn next_frame<R: Wait, S: Source, A: Acknowledge<R>>(
 {
     for _ in rt.forever() {
         match advance(rt, receiver, source, acknowledger) {
-            Ok(Some(Item::Frame(frame))) => return Ok(frame),
-            Ok(Some(Item::Beat)) => {}
+            Ok(Some(Item::Frame(frame))) => {
+                acknowledger.after_item(true, receiver.held());
+                return Ok(frame);
+            }
+            Ok(Some(Item::Beat)) => acknowledger.after_item(false, receiver.held()),
             Ok(None) => {}
             Err(fault) => return Err(fault),
         }

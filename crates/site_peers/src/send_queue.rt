@@ -1,9 +1,9 @@
 ghost use Rattle.std.specs.Prelude.{◌≡◌, ◌⊎◌, ◌+◌, ◌<◌, ◌≤◌, ◌↔◌, ◌∷◌, ◌++◌, [], IfNone, IfSome, IsTrue};
 ghost use Rattle.std.specs.Prelude.{None, OnErr, OnOk, Ok, Some, false, length, true};
 ghost use Rattle.peer_box.specs.Boxes.{bytes_waiting};
-ghost use Rattle.site_peers.specs.Queues.{IsTakenFrom, closed, content_digest, new_queue};
-ghost use Rattle.site_peers.specs.Queues.{opened, waiting, wants_whole, with_frame, with_whole};
-ghost use Rattle.site_peers.specs.Queues.{without_frames};
+ghost use Rattle.site_peers.specs.Queues.{IsBegun, IsNews, IsTakenFrom, WantsWhole, closed};
+ghost use Rattle.site_peers.specs.Queues.{content_digest, new_queue, opened, out_of_memory, waiting};
+ghost use Rattle.site_peers.specs.Queues.{with_frame, with_whole, without_frames};
 
 use peer_box::{Due, PeerBox};
 use sha2::{Digest, Sha256};
@@ -23,7 +23,7 @@ fn digest_of(frame: &[u8]) -> [u8; 32]
 
 /// What waits for one peer, in the order in which its link sends it: a whole that was made for it, and the frames after that whole. A
 /// whole is due when the peer connects, and when frames are given up because they have no room. Frames that are put while a whole is due
-/// are ignored, since the whole is made later.
+/// are ignored, since the whole is made later. A whole answers an ask, or the peer's connection, only if it was begun after it.
 #[derive(Drop)]
 pub struct SendQueue {
     alloc: Global,
@@ -32,11 +32,16 @@ pub struct SendQueue {
     whole: Option<Vec<u8>>,
     // Whether a whole is asked for that waits only if it says something else than the last one.
     is_asked: bool,
+    // Whether a whole is being made for the peer.
+    is_being_made: bool,
     // The digest of what the last whole says that was given since the peer connected.
     last: Option<[u8; 32]>,
+    // Whether an allocation was refused since a whole was last given.
+    lacks_memory: bool,
 }
 
 impl Model for SendQueue {
+    ghost use Rattle.std.specs.Prelude.{◌≡◌, true};
     ghost use Rattle.std.specs.Option.{option_map};
     ghost use Rattle.site_peers.specs.Queues.{QueueState};
 
@@ -46,8 +51,12 @@ impl Model for SendQueue {
       box = q.frames;
       whole = option_map (λ whole. whole.items) q.whole;
       asked = q.is_asked;
+      making = q.is_being_made;
       last = q.last;
+      lacking = q.lacks_memory;
     } };
+
+    ghost invariant = { λ q. q.is_being_made ≡ true → q.frames.is_open ≡ true };
 }
 
 impl SendQueue {
@@ -60,7 +69,9 @@ impl SendQueue {
             frames: PeerBox::new(alloc, limit),
             whole: None,
             is_asked: false,
+            is_being_made: false,
             last: None,
+            lacks_memory: false,
         }
     }
 
@@ -71,7 +82,9 @@ impl SendQueue {
         self.frames.open();
         self.whole = None;
         self.is_asked = false;
+        self.is_being_made = false;
         self.last = None;
+        self.lacks_memory = false;
     }
 
     /// The peer isn't connected any more: nothing waits and nothing is due.
@@ -81,7 +94,9 @@ impl SendQueue {
         self.frames.close();
         self.whole = None;
         self.is_asked = false;
+        self.is_being_made = false;
         self.last = None;
+        self.lacks_memory = false;
     }
 
     /// Asks for a whole, which is to wait if it says something else than the last one that was given.
@@ -91,18 +106,46 @@ impl SendQueue {
         self.is_asked = true;
     }
 
-    /// True if a whole is to be made for the peer: it is connected, and a whole is due or asked for.
-    pub fn wants_whole(&self) -> bool
-        ensures { IsTrue result ↔ ((self.now.box.is_open ≡ true)
-            × ((self.now.box.whole_due ≡ true) ⊎ (self.now.asked ≡ true))) }
+    /// Makes a whole due, which then waits also if it says the same as the last one. All frames are given up. Where the peer isn't
+    /// connected the queue stays as it is.
+    pub fn require_whole(&mut self)
+        ensures open { self.old.box.is_open ≡ true → self.new ≡ without_frames self.old }
+        ensures closed { self.old.box.is_open ≡ false → self.new ≡ self.old }
     {
-        self.frames.is_open() && (self.frames.is_whole_due() || self.is_asked)
+        self.frames.require_whole();
+    }
+
+    /// True if a whole is to be made for the peer: it is connected, and a whole is due, asked for, or being made.
+    pub fn wants_whole(&self) -> bool
+        ensures { IsTrue result ↔ WantsWhole self.now }
+    {
+        self.frames.is_open() && (self.frames.is_whole_due() || self.is_asked || self.is_being_made)
+    }
+
+    /// Says whether a whole is to be made for the peer, as `wants_whole` does. If so, one that is made from now on is for the peer, until
+    /// one is given; a whole that was made before is not.
+    pub fn begin_whole(&mut self) -> bool
+        ensures { IsBegun self.old result self.new }
+    {
+        let wants = self.wants_whole();
+        if wants {
+            self.is_asked = false;
+            self.is_being_made = true;
+        }
+        wants
+    }
+
+    /// True if an allocation was refused since the peer connected or a whole was last given.
+    pub fn lacks_memory(&self) -> bool
+        ensures { result ≡ self.now.lacking }
+    {
+        self.lacks_memory
     }
 
     /// Puts a frame after what waits. Where the peer isn't connected or a whole is due the queue stays as it is. Where the frame has no
     /// room all frames are given up, and a whole is due.
     ///
-    /// `AllocError`: there was room, but an allocation was refused. All frames are given up, and a whole is due.
+    /// `AllocError`: there was room, but an allocation was refused. All frames are given up, and a whole is due; memory is lacking.
     pub fn put(&mut self, frame: &[u8]) -> Result<(), AllocError>
         ensures ignored { (self.old.box.is_open ≡ false) ⊎ (self.old.box.whole_due ≡ true)
             → (result ≡ Ok tt) × (self.new ≡ self.old) }
@@ -112,43 +155,54 @@ impl SendQueue {
         ensures kept { self.old.box.is_open ≡ true → self.old.box.whole_due ≡ false
             → bytes_waiting self.old.box.frames + length frame.now ≤ self.old.box.limit
             → OnOk result (self.new ≡ with_frame self.old frame.now) }
-        ensures memory { OnErr result (self.new ≡ without_frames self.old) }
+        ensures memory { OnErr result (self.new ≡ out_of_memory (without_frames self.old)) }
     {
-        self.frames.put(frame)
-    }
-
-    // Whether a whole with this digest is to wait.
-    fn is_wanted(&self, digest: &[u8; 32]) -> bool
-        ensures { IsTrue result ↔ wants_whole self.now digest.now }
-    {
-        if !self.frames.is_open() {
-            return false;
+        let kept = self.frames.put(frame);
+        if kept.is_err() {
+            self.lacks_memory = true;
         }
-        self.frames.is_whole_due() || self.is_asked && self.last != Some(*digest)
+        kept
     }
 
-    /// Gives the queue a whole that was made after every frame that was put. If the peer is connected, and the whole is due, or asked for
-    /// and not the same as the last one but for its heading, it waits in the place of all that waited, and is due no more.
-    ///
-    /// `AllocError`: an allocation was refused. The queue stays as it is.
-    pub fn give_whole(&mut self, whole: &[u8]) -> Result<(), AllocError>
-        ensures unwanted { (wants_whole self.old (content_digest whole.now) → ⊥)
-            → (result ≡ Ok tt) × (self.new ≡ record self.old { asked = false }) }
-        ensures given { wants_whole self.old (content_digest whole.now)
-            → OnOk result (self.new ≡ with_whole self.old whole.now) }
-        ensures memory { OnErr result (self.new ≡ self.old) }
+    // Whether a whole with this digest is news to the peer.
+    fn is_news(&self, digest: &[u8; 32]) -> bool
+        ensures { IsTrue result ↔ IsNews self.now digest.now }
     {
-        let digest = digest_of(whole);
-        if !self.is_wanted(&digest) {
-            self.is_asked = false;
+        self.frames.is_whole_due() || self.last != Some(*digest)
+    }
+
+    /// Gives the queue a whole that was made after every frame that was put. If it was made for the peer, and a whole is due or this one
+    /// isn't the same as the last one but for its heading, it waits in the place of all that waited, and is due no more. What was asked
+    /// since it was begun stays asked.
+    ///
+    /// `AllocError`: an allocation was refused. The queue stays as it is, but that memory is lacking: the whole stays wanted.
+    pub fn give_whole(&mut self, whole: &[u8]) -> Result<(), AllocError>
+        ensures earlier { self.old.making ≡ false → (result ≡ Ok tt) × (self.new ≡ self.old) }
+        ensures same { self.old.making ≡ true
+            → (IsNews self.old (content_digest whole.now) → ⊥)
+            → (result ≡ Ok tt) × (self.new ≡ record self.old { making = false }) }
+        ensures given { self.old.making ≡ true → IsNews self.old (content_digest whole.now)
+            → OnOk result (self.new ≡ with_whole self.old whole.now) }
+        ensures memory { OnErr result (self.new ≡ out_of_memory self.old) }
+    {
+        if !self.is_being_made {
             return Ok(());
         }
-        let copy = Vec::from_slice(self.alloc, whole)?;
+        let digest = digest_of(whole);
+        if !self.is_news(&digest) {
+            self.is_being_made = false;
+            return Ok(());
+        }
+        let Ok(copy) = Vec::from_slice(self.alloc, whole) else {
+            self.lacks_memory = true;
+            return Err(AllocError);
+        };
         self.frames.require_whole();
         drop(self.frames.take());
         self.whole = Some(copy);
-        self.is_asked = false;
+        self.is_being_made = false;
         self.last = Some(digest);
+        self.lacks_memory = false;
         Ok(())
     }
 

@@ -36,6 +36,21 @@ impl SharedQueue {
         self.queue.lock(rt).ask_whole();
     }
 
+    /// Makes a whole due, which waits also if it says the same as the last one.
+    pub fn require_whole<R: Wait>(&self, rt: &R) {
+        self.queue.lock(rt).require_whole();
+    }
+
+    /// True if a whole is to be made for the peer.
+    pub fn wants_whole<R: Wait>(&self, rt: &R) -> bool {
+        self.queue.lock(rt).wants_whole()
+    }
+
+    /// True if an allocation was refused since the peer connected or a whole was last given.
+    pub fn lacks_memory<R: Wait>(&self, rt: &R) -> bool {
+        self.queue.lock(rt).lacks_memory()
+    }
+
     /// Takes what has waited longest; waits for something for at most this time.
     pub fn take_within<R: Wait + Clock>(&self, rt: &R, time: Duration) -> Option<Vec<u8>> {
         let queue = self.queue.lock(rt);
@@ -67,18 +82,13 @@ impl<'a> SharedOutbox<'a> {
 impl<'a, R: Wait> Outbox<R> for SharedOutbox<'a> {
     ghost use Rattle.std.specs.Prelude.{⊤};
 
-    ghost handed = { λ old receipt new. ⊤ };
+    ghost handed = { λ old receipt wants new. ⊤ };
 
-    ghost says = { λ outbox wants. ⊤ };
-
-    fn hand(&mut self, rt: &R, receipt: &Receipt) {
+    fn hand(&mut self, rt: &R, receipt: &Receipt) -> bool {
         let mut queue = self.queue.queue.lock(rt);
-        Outbox::<R>::hand(&mut *queue, rt, receipt);
+        let wants = Outbox::<R>::hand(&mut *queue, rt, receipt);
         drop(queue);
         self.queue.changed.notify_all();
-    }
-
-    fn wants_whole(&self, rt: &R) -> bool {
-        self.queue.queue.lock(rt).wants_whole()
+        wants
     }
 }

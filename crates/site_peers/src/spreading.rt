@@ -1,46 +1,41 @@
 //! The thread of a site that makes its frames and hands them to the outboxes of all peers.
-ghost use Rattle.std.specs.Prelude.{◌≡◌, ◌⊎◌, ◌+◌, ◌∷◌, [], ℕ, IfErr, List, OnErr, OnOk, Some, false, true};
+ghost use Rattle.std.specs.Prelude.{◌≡◌, ◌⊎◌, ◌+◌, ◌∷◌, [], ℕ, IfErr, IfOk, List, OnErr, OnOk, Some, false, true};
 ghost use Rattle.site_journal.specs.Receipts.{IsOfCut, IsOfWhole};
-ghost use Rattle.std.specs.List.{All};
 ghost use Rattle.std.specs.Result.{result_err};
 ghost use Rattle.site_pumps.specs.Carried.{EachLink};
-ghost use Rattle.site_peers.specs.Outboxes.{HasSpread, IsSettled, cut_count};
+ghost use Rattle.site_peers.specs.Outboxes.{Handing, HasSpread, IsSettled, NoneWants, cut_count};
 
 use crate::Outbox;
 use site_journal::{Bell, DeskFault, Port, Receipt};
 use std::sync::Wait;
 
-// Hands a receipt to each outbox.
-fn hand_to_each<R, O: Outbox<R>>(rt: &R, outboxes: &mut [O], receipt: &Receipt)
-    ensures { EachLink (λ old new. O.handed old receipt.now new) outboxes.old outboxes.new }
+// Hands a receipt to each outbox. Returns whether one of them then wants a whole.
+fn hand_to_each<R, O: Outbox<R>>(rt: &R, outboxes: &mut [O], receipt: &Receipt) -> bool
+    ensures handed { EachLink (λ old new. Handing O.handed old receipt.now new)
+        outboxes.old outboxes.new }
+    ensures none { result ≡ false → NoneWants O.handed receipt.now outboxes.old outboxes.new }
 {
+    let mut is_whole_wanted = false;
     for i in 0..outboxes.len() {
-        outboxes[i].hand(rt, receipt);
-    }
-}
-
-// Whether an outbox wants a whole.
-fn any_wants_whole<R, O: Outbox<R>>(rt: &R, outboxes: &[O]) -> bool
-    ensures { result ≡ false → All (λ outbox. O.says outbox false) outboxes.now }
-{
-    for outbox in outboxes {
-        if outbox.wants_whole(rt) {
-            return true;
+        if outboxes[i].hand(rt, receipt) {
+            is_whole_wanted = true;
         }
     }
-    false
+    is_whole_wanted
 }
 
-// Cuts, and hands the receipt to each outbox.
+// Cuts, and hands the receipt to each outbox. Returns whether one of them then wants a whole.
 fn cut_to_each<R, P: Port<R>, O: Outbox<R>>(
     rt: &R,
     port: &mut P,
     outboxes: &mut [O],
-) -> Result<(), DeskFault>
+) -> Result<bool, DeskFault>
     ensures spread { (receipts : List Receipt)
         × HasSpread P.makes P.refuses O.handed port.old port.new outboxes.old outboxes.new
         receipts (result_err result)
-        × OnOk result ((receipt : Receipt) × IsOfCut receipt × (receipts ≡ receipt ∷ []))
+        × IfOk result (λ wanted. (receipt : Receipt) × IsOfCut receipt
+        × (receipts ≡ receipt ∷ [])
+        × (wanted ≡ false → NoneWants O.handed receipt outboxes.old outboxes.new))
         × OnErr result (receipts ≡ []) }
     ensures fault { IfErr result (λ cause. P.fault port.new ≡ Some cause) }
     ensures ordinal { P.ordinal port.new ≡ P.ordinal port.old }
@@ -49,9 +44,9 @@ fn cut_to_each<R, P: Port<R>, O: Outbox<R>>(
         Ok(receipt) => receipt,
         Err(fault) => return Err(fault),
     };
-    hand_to_each(rt, outboxes, &receipt);
+    let is_whole_wanted = hand_to_each(rt, outboxes, &receipt);
     drop(receipt);
-    Ok(())
+    Ok(is_whole_wanted)
 }
 
 // Makes a whole, and hands the receipt to each outbox.
@@ -77,8 +72,9 @@ fn whole_to_each<R, P: Port<R>, O: Outbox<R>>(
     Ok(())
 }
 
-/// Cuts, and hands the receipt to each outbox. If an outbox then wants a whole, makes one, and hands its receipt to each outbox. Errors are
-/// the port's: none is handed a receipt of a call that failed.
+/// Cuts, and hands the receipt to each outbox. If an outbox says that it wants a whole, makes one, and hands its receipt to each outbox.
+/// What an outbox asks for after it was handed the cut waits for the next call. Errors are the port's: none is handed a receipt of a call
+/// that failed.
 pub fn spread_once<R, P: Port<R>, O: Outbox<R>>(
     rt: &R,
     port: &mut P,
@@ -87,18 +83,17 @@ pub fn spread_once<R, P: Port<R>, O: Outbox<R>>(
     ensures spread { (receipts : List Receipt)
         × HasSpread P.makes P.refuses O.handed port.old port.new outboxes.old outboxes.new
         receipts (result_err result)
-        × OnOk result ((cut_count receipts ≡ 1) × IsSettled O.says receipts outboxes.new)
+        × OnOk result ((cut_count receipts ≡ 1)
+        × IsSettled O.handed receipts outboxes.old outboxes.new)
         × OnErr result ((cut_count receipts ≡ 0) ⊎ (cut_count receipts ≡ 1)) }
     ensures fault { IfErr result (λ cause. P.fault port.new ≡ Some cause) }
     ensures ordinal { P.ordinal port.new ≡ P.ordinal port.old }
 {
-    if let Err(fault) = cut_to_each(rt, port, outboxes) {
-        return Err(fault);
+    match cut_to_each(rt, port, outboxes) {
+        Ok(true) => whole_to_each(rt, port, outboxes),
+        Ok(false) => Ok(()),
+        Err(fault) => Err(fault),
     }
-    if !any_wants_whole(rt, outboxes) {
-        return Ok(());
-    }
-    whole_to_each(rt, port, outboxes)
 }
 
 /// Calls `spread_once` at each ring of the bell, until the bell has ended or a call of the port fails. It waits where the bell or the port

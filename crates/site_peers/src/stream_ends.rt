@@ -1,20 +1,18 @@
-//! The ends of a link over a TCP stream: how it is prepared and closed, and how acknowledgements are read and written.
+//! How the TCP stream of a link is prepared, and how the acknowledgements are read that come back over it.
 use crate::clock::millis;
+use crate::peer_links::Peer;
 use crate::window_sink::AcknowledgementReader;
-use crate::{Acknowledge, Ending, OutletFault, ReadCount};
-use ami_text::StdSink;
+use crate::{EndReason, OutletFault, PeerLinks, Ring};
 use link_keys::Key;
-use link_stream::{Acknowledgement, AcknowledgementReceiver, AcknowledgementSender, SendFault};
+use link_stream::{Acknowledgement, AcknowledgementReceiver};
 use std::alloc::Global;
 use std::io;
 use std::io::{ErrorKind, Read};
-use std::net::{Shutdown, TcpStream};
+use std::net::TcpStream;
 use std::sync::Wait;
 use std::time::{Clock, Duration};
 
-// How long each read of a hello waits, and each try of a write, in milliseconds.
-const HELLO_MILLIS: u64 = 2_000;
-
+// How long each try of a write waits, in milliseconds.
 const WRITE_MILLIS: u64 = 100;
 
 // How often a write is tried that waits.
@@ -34,18 +32,15 @@ const LOOK_WAIT_MILLIS: u64 = 1;
 // How long a read waits for an acknowledgement that is needed.
 const NEEDED_WAIT_MILLIS: u64 = 250;
 
+// How long a site that was asked to end sends what waits, in milliseconds.
+const END_MILLIS: u64 = 2_000;
+
 // How many bytes of acknowledgements are read at a time.
 const PIECE: usize = 1_024;
 
-// How often, and how long each time, bytes are read after a link's end.
-const LAST_READS: u32 = 100;
-
-const LAST_MILLIS: u64 = 20;
-
-// Prepares a stream for its hello.
+// Prepares a stream for its hello and what follows.
 pub(crate) fn prepare(stream: &TcpStream) -> io::Result<()> {
     stream.set_nodelay(true)?;
-    stream.set_read_timeout(Some(Duration::from_millis(HELLO_MILLIS)))?;
     stream.set_write_timeout(Some(Duration::from_millis(WRITE_MILLIS)))
 }
 
@@ -62,68 +57,76 @@ pub(crate) fn has_first_byte(stream: &TcpStream) -> bool {
     }
 }
 
-// Ends the writing side, and reads what is left for up to 2 seconds, so that the peer gets the last bytes that were written.
-pub(crate) fn close_gently(stream: &TcpStream) {
-    if stream.shutdown(Shutdown::Write).is_err() {
-        return;
-    }
-    let wait = Duration::from_millis(LAST_MILLIS);
-    if stream.set_read_timeout(Some(wait)).is_err() {
-        return;
-    }
-    let mut reader = stream;
-    let mut piece = [0u8; PIECE];
-    for _ in 0..LAST_READS {
-        match reader.read(&mut piece) {
-            Ok(0) => return,
-            Ok(_) => {}
-            Err(error) => match error.kind() {
-                ErrorKind::Interrupted | ErrorKind::WouldBlock | ErrorKind::TimedOut => {}
-                _ => return,
-            },
-        }
-    }
-}
-
-// The acknowledgements of a link that come back over its stream.
-pub(crate) struct StreamAcknowledgements<'a, R> {
+// The acknowledgements of a link that come back over its stream. Where the peer asks for a whole, one is due.
+pub(crate) struct StreamAcknowledgements<'a, R, G: Drop> {
     rt: &'a R,
+    links: &'a PeerLinks<G>,
+    peer: &'a Peer,
     stream: &'a TcpStream,
     receiver: AcknowledgementReceiver,
     // When it was last looked for one, and when one last came.
     looked: u64,
     came: u64,
+    // Since when it is known that the site ends.
+    ended: Option<u64>,
 }
 
-impl<'a, R> Drop for StreamAcknowledgements<'a, R> {
+impl<'a, R, G: Drop> Drop for StreamAcknowledgements<'a, R, G> {
     fn drop(self) {
         let StreamAcknowledgements {
             rt: _,
+            links: _,
+            peer: _,
             stream: _,
             receiver,
             looked: _,
             came: _,
+            ended: _,
         } = self;
         drop(receiver);
     }
 }
 
-impl<'a, R: Clock> StreamAcknowledgements<'a, R> {
+impl<'a, R: Wait + Clock, G: Ring<R> + Drop> StreamAcknowledgements<'a, R, G> {
     // Those that come from this time on.
     pub fn new(
         rt: &'a R,
         alloc: Global,
+        links: &'a PeerLinks<G>,
+        peer: &'a Peer,
         stream: &'a TcpStream,
         key: Key,
         now: u64,
-    ) -> StreamAcknowledgements<'a, R> {
+    ) -> StreamAcknowledgements<'a, R, G> {
         StreamAcknowledgements {
             rt,
+            links,
+            peer,
             stream,
             receiver: AcknowledgementReceiver::new(alloc, key),
             looked: now,
             came: now,
+            ended: None,
         }
+    }
+
+    // Whether the site ends, and what waits is not to be sent any more: a site that was asked to end sends for up to 2 seconds.
+    fn is_over(&mut self, now: u64) -> bool {
+        match self.links.ending.reason(self.rt) {
+            None => false,
+            Some(EndReason::Asked) => {
+                let ended = self.ended.unwrap_or(now);
+                self.ended = Some(ended);
+                now >= ended.saturating_add(END_MILLIS)
+            }
+            Some(_) => true,
+        }
+    }
+
+    // Makes a whole due, and rings the bell of the thread that makes it.
+    fn require_whole(&self) {
+        self.peer.queue.require_whole(self.rt);
+        self.links.bell.ring(self.rt);
     }
 
     // Reads a piece of the acceptor's bytes. Returns the last number in it.
@@ -135,6 +138,7 @@ impl<'a, R: Clock> StreamAcknowledgements<'a, R> {
         for _ in 0..PIECE {
             match self.receiver.next_acknowledgement() {
                 Ok(Some(Acknowledgement::Taken(count))) => last = Some(count),
+                Ok(Some(Acknowledgement::Behind)) => self.require_whole(),
                 Ok(Some(Acknowledgement::Refused)) => return Err(OutletFault::FrameRefused),
                 Ok(None) => return Ok(last),
                 Err(fault) => return Err(OutletFault::Receive(fault)),
@@ -162,11 +166,15 @@ impl<'a, R: Clock> StreamAcknowledgements<'a, R> {
     }
 }
 
-impl<'a, R: Clock> AcknowledgementReader for StreamAcknowledgements<'a, R> {
+impl<'a, R: Wait + Clock, G: Ring<R> + Drop> AcknowledgementReader
+    for StreamAcknowledgements<'a, R, G> {
     fn read_last(&mut self, waits: bool) -> Result<Option<u64>, OutletFault> {
         let Some(now) = millis(self.rt) else {
             return Err(OutletFault::NoClock);
         };
+        if self.is_over(now) {
+            return Err(OutletFault::Ending);
+        }
         if !waits && now < self.looked.saturating_add(LOOK_MILLIS) {
             return Ok(None);
         }
@@ -183,71 +191,5 @@ impl<'a, R: Clock> AcknowledgementReader for StreamAcknowledgements<'a, R> {
             return Err(OutletFault::Silent);
         }
         Ok(last)
-    }
-}
-
-// What acknowledges over a stream the bytes that were read of it.
-pub(crate) struct StreamAcknowledger<'a> {
-    stream: &'a TcpStream,
-    // Whether the site ends, and with it the link.
-    ending: &'a Ending,
-    sender: AcknowledgementSender,
-    count: ReadCount,
-}
-
-impl<'a> Drop for StreamAcknowledger<'a> {
-    fn drop(self) {
-        let StreamAcknowledger {
-            stream: _,
-            ending: _,
-            sender,
-            count,
-        } = self;
-        drop(sender);
-        drop(count);
-    }
-}
-
-impl<'a> StreamAcknowledger<'a> {
-    // Nothing was read at this time.
-    pub fn new(
-        stream: &'a TcpStream,
-        ending: &'a Ending,
-        key: Key,
-        now: u64,
-    ) -> StreamAcknowledger<'a> {
-        StreamAcknowledger {
-            stream,
-            ending,
-            sender: AcknowledgementSender::new(key),
-            count: ReadCount::new(now),
-        }
-    }
-
-    // Sends an acknowledgement.
-    fn send(&mut self, acknowledgement: Acknowledgement) -> Result<(), SendFault> {
-        let mut sink = StdSink::new(self.stream).with_waits(WRITE_WAITS);
-        self.sender.send(&mut sink, acknowledgement)
-    }
-
-    // Says that a frame was refused. A failure is ignored, since the link ends anyway.
-    pub fn refuse(&mut self) {
-        let _ = self.send(Acknowledgement::Refused);
-    }
-}
-
-impl<'a, R: Wait + Clock> Acknowledge<R> for StreamAcknowledger<'a> {
-    // `Failed` where the site ends, too.
-    fn after_read(&mut self, rt: &R, count: usize) -> Result<(), SendFault> {
-        if self.ending.reason(rt).is_some() {
-            return Err(SendFault::Failed);
-        }
-        let Some(now) = millis(rt) else {
-            return Err(SendFault::Failed);
-        };
-        match self.count.after_read(count, now) {
-            Some(all) => self.send(Acknowledgement::Taken(all)),
-            None => Ok(()),
-        }
     }
 }

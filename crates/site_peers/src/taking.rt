@@ -1,11 +1,11 @@
 //! The loop of a link that receives: the site takes each frame that comes.
-ghost use Rattle.std.specs.Prelude.{◌≡◌, ◌⊎◌, ◌∷◌, ◌++◌, [], ⊤, ℕ, List, MatchOption, Option, Some};
+ghost use Rattle.std.specs.Prelude.{◌≡◌, ◌⊎◌, ◌∷◌, ◌++◌, [], ⊤, ℕ, List, MatchOption, None, Option, Some};
 ghost use Rattle.std.specs.Option.{option_map_or};
 ghost use Rattle.link_stream.specs.Tagged.{TaggedState};
 ghost use Rattle.site_journal.specs.Ports.{PortWork};
 ghost use Rattle.site_pumps.specs.Deeds.{AreTakes};
-ghost use Rattle.site_peers.specs.Links.{inlet_source, inlet_stream};
-ghost use Rattle.site_peers.specs.Received.{HasGivenFrames};
+ghost use Rattle.site_peers.specs.Links.{inlet_fault, inlet_source, inlet_stream};
+ghost use Rattle.site_peers.specs.Received.{HasEndedAt, HasGivenFrames};
 
 use crate::{Acknowledge, LinkInlet};
 use ami_text::Source;
@@ -18,7 +18,7 @@ use std::sync::Wait;
 ///
 /// The frames that were taken, and then the one that was refused if one was, are in order the items but beats that were received: the
 /// bytes that the inlet held and those that it read since are these items, each with the tag of its counter, and what it held after the
-/// last of them.
+/// last of them. It returns without a fault only where the inlet gives nothing more, for the inlet's own fault.
 pub fn take_frames<R: Wait, P: Port<R>, S: Source + Drop, A: Acknowledge<R> + Drop, K: ReceiptSink>(
     rt: &R,
     port: &mut P,
@@ -30,7 +30,11 @@ pub fn take_frames<R: Wait, P: Port<R>, S: Source + Drop, A: Acknowledge<R> + Dr
         × AreTakes frames receipts
         × PortWork P.makes P.refuses port.old receipts result.fault port.new
         × HasGivenFrames (S.left (inlet_source inlet.old)) left (inlet_stream inlet.old)
-        (frames ++ option_map_or (λ bytes. bytes.items ∷ []) result.refused []) stream }
+        (frames ++ option_map_or (λ bytes. bytes.items ∷ []) result.refused []) stream
+        × (inlet_fault inlet.old ≡ None → HasEndedAt result.fault
+        left (S.left (inlet_source inlet.new)) stream (inlet_stream inlet.new)
+        (inlet_fault inlet.new) (S.ended (inlet_source inlet.new))
+        (S.failed (inlet_source inlet.new))) }
     // Bytes come back only of a take that the port has refused.
     ensures refused { MatchOption result.refused ⊤ (λ bytes. (cause : DeskFault)
         × (result.fault ≡ Some cause) × (P.fault port.new ≡ Some cause)) }

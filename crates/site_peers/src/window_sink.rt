@@ -36,6 +36,9 @@ pub enum OutletFault {
     /// The clock could not be read.
     #[error("no clock")]
     NoClock,
+    /// The site ends.
+    #[error("the site ends")]
+    Ending,
 }
 
 // What reads the acknowledgements of a link.

@@ -24,7 +24,3 @@ pub record HasEnded {T O : Type 0} (Gives : T → ℕ → List (List ℕ) → Pa
 abbrev pub HaveEnded : {S T O : Type 0} → (T → ℕ → List (List ℕ) → PassState → O → PassState → Type 0) → ℕ → List (SiteTasks S T) → List (SiteOutput O) → Type 0
 HaveEnded {S = S} {T = T} {O = O} Gives limit sites ends = (place : ℕ) (site : SiteTasks S T) (end : SiteOutput O) → slice_get sites place ≡ Some site → slice_get ends place ≡ Some end
     → HasEnded Gives site.replica limit site.tasks.items end.journal end.outputs.items
-
--- what was launched at each place of `sites` has ended with the output at that place
-abbrev pub HaveAllEnded : {X O : Type 0} → (X → ℕ → O → Type 0) → ℕ → List X → List O → Type 0
-HaveAllEnded {X} {O} Ends limit sites outputs = (place : ℕ) (site : X) (output : O) → slice_get sites place ≡ Some site → slice_get outputs place ≡ Some output → Ends site limit output

@@ -1,5 +1,3 @@
 pub mod Ends
 pub mod Ledgers
-pub mod Places
-pub mod Promises
 pub mod Tasks

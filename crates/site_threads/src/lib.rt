@@ -5,24 +5,15 @@
 //! [`launch_sites`] runs sites of another form in the same way, such as sites whose desk has a store.
 #![tactic(auto)]
 
-mod launch;
-mod launch_fault;
 mod site;
-mod site_fault;
 mod site_tasks;
 mod sites;
-mod start;
 mod task;
-mod tasks;
 
-pub use launch::Launch;
-pub use launch_fault::LaunchFault;
+pub use launcher::{Launch, LaunchFault, SiteFault, Start, Workplace, launch_sites};
 pub use site::{close_site, run_threads};
 pub use site_desk::{MOST_PASSES, Pass, SiteDesk, SiteLedger};
-pub use site_fault::SiteFault;
 pub use site_journal::Journaled;
 pub use site_tasks::{SiteOutput, SiteTasks};
-pub use sites::{launch_sites, run_sites};
-pub use start::Start;
-pub use task::{Task, TaskEnd, TaskOutput, Workplace};
-pub use tasks::TaskResults;
+pub use sites::run_sites;
+pub use task::{Task, TaskEnd, TaskOutput, TaskResults};

@@ -1,5 +1,5 @@
-//! One site: its desk, and its threads in a scope of their own.
-ghost use Rattle.std.specs.Prelude.{◌≡◌, ◌≤◌, ℕ, IfOk, List, Some, slice_get, vec_capacity, vec_len};
+//! One site: its desk, and its threads.
+ghost use Rattle.std.specs.Prelude.{◌≡◌, ◌≤◌, ℕ, IfOk, List, Some, slice_get, vec_len};
 ghost use Rattle.replica.specs.Site.{SiteState};
 ghost use Rattle.site_desk.specs.Passes.{AreNewPasses};
 ghost use Rattle.site_desk.specs.declared.desk.TheConstants.{MOST_PASSES};
@@ -9,103 +9,16 @@ ghost use Rattle.site_threads.specs.Ends.{HasEnded};
 ghost use Rattle.site_threads.specs.Ledgers.{IsLedgerOf};
 ghost use Rattle.site_threads.specs.Tasks.{AreDone, DoesTasks};
 
-use crate::site_fault::SiteFault;
-use crate::start::Start;
-use crate::tasks::{TaskResults, Workers, end_tasks, join_tasks, start_tasks};
-use crate::{Launch, SiteOutput, SiteTasks, Task, TaskOutput, Workplace};
-use dots::Memory;
+use crate::task::SiteWorkplace;
+use crate::{SiteOutput, SiteTasks, Task, TaskOutput, TaskResults};
+use launcher::{Launch, SiteFault, Start, Workplace};
 use site_desk::{MOST_PASSES, Pass, SiteDesk, SiteLedger, close};
 use site_journal::{Journaled, MOST_STEPS};
 use std::alloc::Global;
 use std::marker::Brand;
 use std::sync::Wait;
 use std::sync::ledger::Blank;
-use std::thread;
-use std::thread::{Scope, Threads};
-
-// Room for `number` threads, and for what they give.
-fn room_for<L: SiteLedger, T: TaskOutput>(
-    alloc: Global,
-    number: usize,
-) -> Result<(Workers<L, T>, TaskResults<L, T::Output>), Memory>
-    ensures none { IfOk result (λ room. vec_len room.0 ≡ 0) }
-    ensures workers { IfOk result (λ room. number ≤ vec_capacity room.0) }
-    ensures no_passes { IfOk result (λ room. vec_len room.1.passes ≡ 0) }
-    ensures passes { IfOk result (λ room. number ≤ vec_capacity room.1.passes) }
-    ensures no_outputs { IfOk result (λ room. vec_len room.1.outputs ≡ 0) }
-    ensures outputs { IfOk result (λ room. number ≤ vec_capacity room.1.outputs) }
-{
-    let workers = Vec::with_capacity(alloc, number)?;
-    let passes = match Vec::with_capacity(alloc, number) {
-        Ok(passes) => passes,
-        Err(_) => {
-            drop(workers);
-            return Err(Memory);
-        }
-    };
-    match Vec::with_capacity(alloc, number) {
-        Ok(outputs) => Ok((workers, TaskResults { passes, outputs })),
-        Err(_) => {
-            drop(workers);
-            drop(passes);
-            Err(Memory)
-        }
-    }
-}
-
-// Starts all threads of a site, and joins them. If a thread can't be started no site begins, and the
-// site's other threads end first.
-fn run_tasks<
-    's,
-    'e: 's,
-    L: SiteLedger + Send + Sync + 's,
-    R: Threads + Wait + Sync,
-    S: Sync,
-    T: TaskOutput + Send + Drop + 's,
-    W: Workplace<S, R, T, Pass<L>, T::Output> + Sync + 's,
->(
-    scope: &'s Scope<'s, &'e ()>,
-    rt: &'s R,
-    alloc: Global,
-    start: &'s Start,
-    shared: &'s S,
-    place: &'s W,
-    passes: Vec<Pass<L>>,
-    tasks: Vec<T>,
-) -> Result<TaskResults<L, T::Output>, SiteFault>
-    requires place { DoesTasks W.does T.gives L.site L.names }
-    requires passes { AreNewPasses (vec_len tasks) passes.items }
-    ensures { IfOk result (λ all.
-        AreDone T.gives L.site L.names tasks.items all.passes.items all.outputs.items) }
-{
-    let (mut workers, room) = match room_for(alloc, tasks.len()) {
-        Ok(room) => room,
-        Err(_) => {
-            drop(passes);
-            drop(tasks);
-            return Err(SiteFault::Memory);
-        }
-    };
-    let started = start_tasks(
-        scope,
-        rt,
-        alloc,
-        start,
-        shared,
-        place,
-        passes,
-        tasks,
-        &mut workers,
-    );
-    if let Err(fault) = started {
-        start.fail(rt);
-        end_tasks(rt, workers);
-        drop(room);
-        return Err(fault);
-    }
-    start.one_ready(rt);
-    join_tasks(rt, workers, room)
-}
+use std::thread::Threads;
 
 /// Does each of a site's tasks at this place, by the pass of the task's place and in a thread of its
 /// own, and returns when all have ended. No task begins before all threads of all sites run.
@@ -133,16 +46,7 @@ pub fn run_threads<
     ensures done { IfOk result (λ all.
         AreDone T.gives L.site L.names tasks.items all.passes.items all.outputs.items) }
 {
-    thread::scope(
-        thread::scope_env(),
-        rt,
-        move |scope| -> Result<TaskResults<L, T::Output>, SiteFault>
-            requires place { DoesTasks W.does T.gives L.site L.names }
-            requires passes { AreNewPasses (vec_len tasks) passes.items }
-            ensures { IfOk result (λ all.
-                AreDone T.gives L.site L.names tasks.items all.passes.items all.outputs.items) }
-        { run_tasks(scope, rt, alloc, start, shared, place, passes, tasks) },
-    )
+    launcher::run_threads(rt, alloc, start, shared, place, passes, tasks)
 }
 
 /// Closes the desk of a site whose tasks are all done, by the passes that they were done by (this
@@ -158,7 +62,7 @@ pub fn close_site<L: SiteLedger, T: TaskOutput>(
         → AreDone T.gives L.site L.names tasks all.passes.items all.outputs.items
         → HasEnded T.gives replica L.limit tasks result.journal result.outputs.items }
 {
-    let TaskResults { passes, outputs } = all;
+    let launcher::TaskResults { passes, outputs } = all;
     match close(desk, passes) {
         Ok(journal) => SiteOutput { journal, outputs },
         Err(_) => unreachable!(),
@@ -186,8 +90,10 @@ fn run_desk<
         → IsLedgerOf L.site L.names L.base replica
         → HasEnded T.gives replica L.limit tasks.items end.journal end.outputs.items) }
 {
-    let run = run_threads(rt, alloc, start, &shared, &desk, passes, tasks);
+    let place = SiteWorkplace { desk };
+    let run = run_threads(rt, alloc, start, &shared, &place, passes, tasks);
     drop(shared);
+    let SiteWorkplace { desk } = place;
     match run {
         Ok(all) => Ok(close_site::<L, T>(desk, all)),
         Err(fault) => {

@@ -1,6 +1,7 @@
 //! What a thread of a site does.
 ghost use Rattle.std.specs.Prelude.{◌≡◌};
 
+use launcher::Workplace;
 use site_desk::{Pass, SiteDesk, SiteLedger};
 use std::alloc::Global;
 
@@ -43,19 +44,14 @@ pub trait Task<S, R>: TaskOutput {
         ensures gives { Self.gives self L.site L.names pass result.output result.pass };
 }
 
-/// Where the tasks of a site are done: its desk, in whatever form. `S` is what the tasks of a site
-/// share, `R` the handle, `T` the tasks, `P` their passes, `O` what they give.
-pub trait Workplace<S, R, T, P, O> {
-    /// `does task old output new`: here the task gives `output`, and leads its pass from `old` to
-    /// `new`.
-    ghost does: { T → P → O → P → Type 0 };
-
-    /// Does the task by this pass, and gives the pass back.
-    fn do_task(&self, rt: &R, alloc: Global, shared: &S, task: T, pass: P) -> (P, O)
-        ensures { does task pass result.1 result.0 };
+// A site's desk, as the place where its tasks are done.
+#[derive(Drop)]
+pub(crate) struct SiteWorkplace<L: SiteLedger> {
+    pub desk: SiteDesk<L>,
 }
 
-impl<L: SiteLedger, S, R, T: Task<S, R>> Workplace<S, R, T, Pass<L>, T::Output> for SiteDesk<L> {
+impl<L: SiteLedger, S, R, T: Task<S, R>> Workplace<S, R, T, Pass<L>, T::Output>
+    for SiteWorkplace<L> {
     ghost use Rattle.std.specs.Prelude.{◌≡◌};
 
     ghost does = { λ task old output new.
@@ -69,7 +65,10 @@ impl<L: SiteLedger, S, R, T: Task<S, R>> Workplace<S, R, T, Pass<L>, T::Output> 
         task: T,
         pass: Pass<L>,
     ) -> (Pass<L>, T::Output) {
-        let TaskEnd { pass, output } = task.run(rt, alloc, shared, self, pass);
+        let TaskEnd { pass, output } = task.run(rt, alloc, shared, &self.desk, pass);
         (pass, output)
     }
 }
+
+/// What the threads of a site give back: its passes and its tasks' outputs, in the order of the tasks.
+pub type TaskResults<L, O> = launcher::TaskResults<Pass<L>, O>;

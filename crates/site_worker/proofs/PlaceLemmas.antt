@@ -5,7 +5,7 @@ use Rattle.std.proofs.Math.ListN.{get_or-append}
 use Rattle.std.proofs.Math.Seq.{get_or-append_seam}
 use Rattle.std.proofs.lemmas.Option.{slice_get-get_or}
 use Rattle.sites_world.proofs.Lists.{none_some, one_some}
-use Rattle.site_threads.specs.Places.{AtEach}
+use Rattle.launcher.specs.Places.{AtEach}
 
 -- the mapped element at a place
 pub mapped_at : {A B : Type 0} (f : A → B) (xs : List A) (place : ℕ) (x : A) (none : B) → slice_get xs place ≡ Some x → slice_index_or (map f xs) place none ≡ f x

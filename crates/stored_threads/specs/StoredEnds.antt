@@ -6,6 +6,7 @@ use Rattle.site_journal.specs.declared.step.Step.{Step}
 use Rattle.site_threads.specs.Ends.{HasEnded}
 use Rattle.stored_desk.specs.Recorded.{IsLegalHistory}
 use Rattle.stored_desk.specs.declared.step_store.CommitFault.{CommitFault}
+use Rattle.stored_desk.specs.declared.step_store.CommitFault.TheVariants.{Other}
 use Rattle.stored_threads.specs.declared.stored_site_tasks.StoredSiteOutput.{StoredSiteOutput}
 use Rattle.stored_threads.specs.declared.stored_site_tasks.StoredSiteTasks.{StoredSiteTasks}
 
@@ -19,10 +20,11 @@ pub record IsStoreOf {D : Type 0} (Holds Keeps : D → List Step → Type 0) (be
   pub holds : fault ≡ None → Holds store list
 
 -- the site that began as `replica` has done `tasks`, as a site without a store, and its store, if it
--- came back, is its own
+-- came back, is its own; if it didn't, there is a fault
 pub record HasStoredEnd {D T O : Type 0} (Gives : T → ℕ → List (List ℕ) → PassState → O → PassState → Type 0) (Holds Keeps : D → List Step → Type 0) (begun : D → SiteState) (replica : SiteState) (limit : ℕ) (tasks : List T) (end : StoredSiteOutput D O) : Type 0 where
   pub ended : HasEnded Gives replica limit tasks end.journal end.outputs.items
   pub stored : IfSome end.store (λ store. IsStoreOf Holds Keeps begun replica end.fault store)
+  pub lost : end.store ≡ None → end.fault ≡ Some Other
 
 -- the site at each place of `sites` has ended with the output at that place
 abbrev pub HaveStoredEnds : {D S T O : Type 0} → (T → ℕ → List (List ℕ) → PassState → O → PassState → Type 0) → (D → List Step → Type 0) → (D → List Step → Type 0) → (D → SiteState) → ℕ → List (StoredSiteTasks D S T) → List (StoredSiteOutput D O) → Type 0

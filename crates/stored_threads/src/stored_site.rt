@@ -1,5 +1,5 @@
 //! One site with a store: its desk, its threads, and how its store comes back.
-ghost use Rattle.std.specs.Prelude.{◌≡◌, ◌≤◌, ℕ, [], IfOk, IfSome, List, Some, slice_get, vec_len};
+ghost use Rattle.std.specs.Prelude.{◌≡◌, ◌≤◌, ℕ, [], IfOk, IfSome, List, None, Some, slice_get, vec_len};
 ghost use Rattle.replica.specs.Site.{IsSameSite, SiteState};
 ghost use Rattle.site_desk.specs.Passes.{AreNewPasses};
 ghost use Rattle.site_desk.specs.declared.desk.TheConstants.{MOST_PASSES};
@@ -26,30 +26,37 @@ use stored_desk::{
     CommitFault, NewHistory, NewMark, SavedSteps, StepStore, StoredDesk, StoredLedger,
 };
 
-// Saves all steps that the site has done, and tries again while it is out of memory. Where a commit of the store has failed, it saves none.
-fn settle<D: StepStore, L: StoredLedger, R: Wait>(rt: &R, desk: &StoredDesk<D, L>) {
+// Saves all steps that the site has done, and tries again while it is out of memory. Returns whether all are saved.
+fn settle<D: StepStore, L: StoredLedger, R: Wait>(rt: &R, desk: &StoredDesk<D, L>) -> bool {
     for _ in rt.forever() {
         match desk.settle_all(rt) {
+            Ok(()) => return true,
             Err(DeskFault::Memory) => thread::yield_now(),
-            _ => return,
+            Err(_) => return false,
         }
     }
     unreachable!()
 }
 
-// The store of what was saved, and why a commit of it has failed, if one has.
+// The store of what was saved, and why steps may be missing in it, if they may: not all are saved, or no store came back.
 fn store_of<D: StepStore, L: StoredLedger>(
     saved: Option<SavedSteps<D, L>>,
+    are_all_saved: bool,
 ) -> (Option<D>, Option<CommitFault>)
-    ensures { IfSome result.0 (λ store.
+    ensures stored { IfSome result.0 (λ store.
         IsStoreOf D.holds D.keeps D.begun L.base result.1 store) }
+    ensures lost { result.0 ≡ None → result.1 ≡ Some CommitFault.Other }
 {
     match saved {
         Some(saved) => {
             let fault = saved.fault();
-            (Some(saved.into_store()), fault)
+            let store = saved.into_store();
+            if fault.is_none() && !are_all_saved {
+                return (Some(store), Some(CommitFault::Other));
+            }
+            (Some(store), fault)
         }
-        None => (None, None),
+        None => (None, Some(CommitFault::Other)),
     }
 }
 
@@ -66,10 +73,10 @@ fn close_stored_site<D: StepStore, L: StoredLedger, R: Wait, T: TaskOutput>(
         → AreDone T.gives L.site L.names tasks all.passes.items all.outputs.items
         → HasStoredEnd T.gives D.holds D.keeps D.begun replica L.limit tasks result }
 {
-    settle(rt, &desk);
+    let are_all_saved = settle(rt, &desk);
     let (desk, saved) = desk.into_parts();
     let SiteOutput { journal, outputs } = close_site::<L, T>(desk, all);
-    let (store, fault) = store_of(saved);
+    let (store, fault) = store_of(saved, are_all_saved);
     StoredSiteOutput {
         journal,
         outputs,

@@ -24,6 +24,7 @@ pub struct StoredSiteOutput<D: Drop, O: Drop> {
     pub outputs: Vec<O>,
     /// The store, unless a thread was cut off in a commit.
     pub store: Option<D>,
-    /// Why a commit of the store has failed, if one has. The journal may then have steps that the store hasn't.
+    /// Why the journal may have steps that the store hasn't, if it may: a commit of the store has failed, or (`Other`) a step isn't saved
+    /// for another cause, or the store hasn't come back.
     pub fault: Option<CommitFault>,
 }

@@ -1,8 +1,18 @@
 //! Runs lines of standard input at one site: `journal|desk SITE LIMIT QUEUE..`.
 //!
 //! The site has the number SITE, 0 to 63, and the named queues, in that order, and is new. Its journal holds at most LIMIT steps, 1
-//! to 1,000,000. The lines run at the journal itself, or by one pass of a desk over it. `docs/model.md`, "Sites in lines", has the
-//! lines and their results.
+//! to 1,000,000. The lines run at the journal itself, or by one pass of a desk over it. Empty lines and `#` lines give nothing.
+//!
+//! - `add QUEUE INTERFACE PENALTY`, `remove QUEUE INTERFACE`, `completed QUEUE`, `abandoned QUEUE` ask for the command; `status` for the
+//!   status of all queues; `gated` for it with a gate (desk).
+//! - `cut` and `whole` make that frame. `take BYTES` takes the frame in hexadecimal, `fronts BYTES` each proper prefix of it, the empty
+//!   one first.
+//! - `checkpoint` drops the steps; `above N` does if they keep more than N bytes (desk): `dropped` or `stays`.
+//!
+//! A step at position N writes `step N: ` and `done`, `refused` and the refusal, `report` and its bytes, `taken`, `nothing`, or `frame`
+//! and its bytes. Without a step it writes `refused` and the fault; after a refused allocation `memory`, and does the line again;
+//! `changed` if a refusal changed the journal or bytes did not come back. Other lines are `not understood`. At the end it writes
+//! `settled`, or why not, and the numbers of steps done and dropped.
 ghost use Rattle.std.specs.Prelude.{◌≡◌, IfSome};
 ghost use Rattle.site_journal.specs.Journals.{IsOfSite};
 

@@ -43,13 +43,15 @@ const ALTERED: &str =
 const OTHER_KEY: &str =
     "000000185144020000000000000000010000000000000000000000000f2a781d3ffae0e9601672c1bca1a093";
 
-// Acknowledgements of 0 and 84 bytes and of a refused frame, each with its tag but for the last byte, and one of 0 bytes under the key of
-// items.
+// Acknowledgements of 0 and 84 bytes, of a refused frame and of an acceptor that is behind, each with its tag but for the last byte, and one
+// of 0 bytes under the key of items.
 const ACKNOWLEDGED_NONE: &str = "00000000000000000db7564ac6e5c48b6baac676810281";
 
 const ACKNOWLEDGED_84: &str = "00000000000000544929c9ce3f27cb61a61f968d28fda9";
 
 const ACKNOWLEDGED_REFUSED: &str = "fffffffffffffffff51f401b224dc018490d076a65a304";
+
+const ACKNOWLEDGED_BEHIND: &str = "fffffffffffffffedd12a4ad6cd402c9423bd38bc5c5f5";
 
 const UNDER_ITEM_KEY: &str = "00000000000000004b63869ea31f456e1b2f52167b73a3cb";
 
@@ -229,6 +231,7 @@ fn acknowledgements_come_back(rt: HostRuntime) {
         (Acknowledgement::Taken(0), [ACKNOWLEDGED_NONE, "13"]),
         (Acknowledgement::Taken(84), [ACKNOWLEDGED_84, "14"]),
         (Acknowledgement::Refused, [ACKNOWLEDGED_REFUSED, "8d"]),
+        (Acknowledgement::Behind, [ACKNOWLEDGED_BEHIND, "7b"]),
     ];
     for (acknowledgement, pieces) in rows {
         assert_back(&rt, alloc, &mut receiver, pieces, acknowledgement);
@@ -255,6 +258,8 @@ fn acknowledgements_are_sent(rt: HostRuntime) {
     assert!(rt; sent == Ok(()));
     let sent = sender.send(&mut sink, Acknowledgement::Refused);
     assert!(rt; sent == Ok(()));
+    let sent = sender.send(&mut sink, Acknowledgement::Behind);
+    assert!(rt; sent == Ok(()));
     let parts = [
         ACKNOWLEDGED_NONE,
         "13",
@@ -262,6 +267,8 @@ fn acknowledgements_are_sent(rt: HostRuntime) {
         "14",
         ACKNOWLEDGED_REFUSED,
         "8d",
+        ACKNOWLEDGED_BEHIND,
+        "7b",
     ];
     let wanted = all_bytes(&rt, alloc, &parts);
     assert!(rt; sink.as_slice() == wanted.as_slice());

@@ -1,5 +1,5 @@
 //! Tests of the parts of a site's state, by their public calls: values, arenas, devectors, contexts, totals, sets of members and
-//! deltas. This crate has no code of its own.
+//! deltas; and of the faults of a launch. This crate has no code of its own.
 #![tactic(auto)]
 
 #[cfg(test)]
@@ -12,6 +12,8 @@ mod contexts;
 mod deltas;
 #[cfg(test)]
 mod devectors;
+#[cfg(test)]
+mod launch_faults;
 #[cfg(test)]
 mod member_sets;
 #[cfg(test)]

@@ -52,8 +52,8 @@ struct Shared {
 // What a thread of a site does.
 #[derive(Drop)]
 enum Work {
-    // It adds a member, waits until the site shows this number of members, and ends the site.
-    Add(Ask, usize),
+    // It adds a member after this time, waits until the site shows this number of members, and ends the site.
+    Add(Ask, Duration, usize),
     // It makes frames.
     Spread,
     // It dials the one peer.
@@ -116,8 +116,8 @@ fn shows<L: SiteLedger, R: Wait>(
     shows
 }
 
-// Adds a member, and waits up to 20 seconds until the site shows this number of members, and then 2 seconds more, so that the other site
-// does too.
+// Adds a member after this time, and waits up to 20 seconds until the site shows this number of members, and then 2 seconds more, so that
+// the other site does too.
 fn add_and_wait<L: SiteLedger, R: Wait + Clock>(
     rt: &R,
     alloc: Global,
@@ -125,10 +125,12 @@ fn add_and_wait<L: SiteLedger, R: Wait + Clock>(
     desk: &SiteDesk<L>,
     pass: &mut Pass<L>,
     asked: Ask,
+    wait: Duration,
     members: usize,
 ) -> bool
     ensures { pass.new.ordinal ≡ pass.old.ordinal }
 {
+    thread::sleep(rt, wait);
     drop(desk.call(rt, pass, &asked));
     drop(asked);
     shared.links.bell().ring(rt);
@@ -204,9 +206,9 @@ fn do_work<
     let links = &shared.links;
     let log = LinkLog::new(alloc, &shared.events, shared.site);
     match task {
-        Work::Add(asked, members) => {
-            let shown = add_and_wait(rt, alloc, shared, desk, pass, asked, members);
-            end_links(rt, links, EndReason::Asked);
+        Work::Add(asked, wait, members) => {
+            let shown = add_and_wait(rt, alloc, shared, desk, pass, asked, wait, members);
+            end_links(rt, links, log, EndReason::Asked);
             shown
         }
         Work::Spread => spread_frames(rt, alloc, shared, desk, pass),
@@ -258,12 +260,14 @@ fn add(rt: &impl Abort, interface: &[u8]) -> Ask {
     })
 }
 
-// The tasks of a site that adds a member, and then shows this number of members.
-fn tasks(rt: &impl Abort, alloc: Global, asked: Ask, members: usize) -> Vec<Work>
+// The tasks of a site that adds a member after this time, and then shows this number of members.
+fn tasks(rt: &impl Abort, alloc: Global, asked: Ask, wait: Duration, members: usize) -> Vec<Work>
     ensures { vec_len result ≡ 5 }
 {
     let mut tasks = Vec::new(alloc);
-    tasks.push(Work::Add(asked, members)).expect(rt, "memory");
+    tasks
+        .push(Work::Add(asked, wait, members))
+        .expect(rt, "memory");
     tasks.push(Work::Spread).expect(rt, "memory");
     tasks.push(Work::Dial).expect(rt, "memory");
     tasks.push(Work::Hear).expect(rt, "memory");
@@ -284,23 +288,25 @@ fn replica(rt: &impl Abort, alloc: Global, site: SiteId, list: QueueList, adds: 
     replica
 }
 
-// A site of a test: its number, its store, how many members it has before the launch, and the one that it adds.
+// A site of a test: its number, its store, how many members it has before the launch, the one that it adds, when it does so, and how many
+// members it shows in the end.
 #[derive(Clone, Copy)]
 struct TestSite {
     number: u8,
     store: u8,
     adds: u32,
     interface: &'static [u8],
+    wait: Duration,
+    members: usize,
 }
 
-// What a site is launched with that listens here, dials this address, adds a member, and then shows this number of members.
+// What a site is launched with that listens here and dials this address.
 fn launch_of(
     rt: &impl Abort,
     alloc: Global,
     test: TestSite,
     listener: TcpListener,
     peer: SocketAddr,
-    members: usize,
 ) -> SiteTasks<Shared, Work>
     ensures { vec_len result.tasks ≡ 5 }
 {
@@ -330,7 +336,7 @@ fn launch_of(
     SiteTasks {
         replica: replica(rt, alloc, site, list, test.adds),
         shared,
-        tasks: tasks(rt, alloc, add(rt, test.interface), members),
+        tasks: tasks(rt, alloc, add(rt, test.interface), test.wait, test.members),
     }
 }
 
@@ -371,8 +377,31 @@ fn pair(
     sites
 }
 
-// Whether two sites that are linked show all members, of which the first has this number before it is launched.
-fn both_show_all<
+// The first site of a test, and the second one.
+fn first(adds: u32, wait: Duration, members: usize) -> TestSite {
+    TestSite {
+        number: 0,
+        store: 10,
+        adds,
+        interface: b"SIP/one",
+        wait,
+        members,
+    }
+}
+
+fn second(adds: u32, wait: Duration, members: usize) -> TestSite {
+    TestSite {
+        number: 1,
+        store: 20,
+        adds,
+        interface: b"SIP/other",
+        wait,
+        members,
+    }
+}
+
+// Whether two sites that are linked show the members that they should.
+fn both_show<
     R: Abort
         + Net<Listener = TcpListener, Stream = TcpStream>
         + Threads
@@ -380,25 +409,12 @@ fn both_show_all<
         + Clock
         + RandomSource
         + Sync,
->(rt: &R, alloc: Global, adds: u32) -> bool {
+>(rt: &R, alloc: Global, first: TestSite, second: TestSite) -> bool {
     let (one, other) = (listen(rt), listen(rt));
     let to_one = one.local_addr().ok().expect(rt, "an address");
     let to_other = other.local_addr().ok().expect(rt, "an address");
-    let members = (adds as usize).saturating_add(2);
-    let first = TestSite {
-        number: 0,
-        store: 10,
-        adds,
-        interface: b"SIP/one",
-    };
-    let second = TestSite {
-        number: 1,
-        store: 20,
-        adds: 0,
-        interface: b"SIP/other",
-    };
-    let first = launch_of(rt, alloc, first, one, to_other, members);
-    let second = launch_of(rt, alloc, second, other, to_one, members);
+    let first = launch_of(rt, alloc, first, one, to_other);
+    let second = launch_of(rt, alloc, second, other, to_one);
     let sites = pair(rt, alloc, first, second);
     let ends = run_sites(rt, alloc, 1_000, sites).expect(rt, "ends");
     let done = ends.len() == 2 && all_done(ends.as_slice());
@@ -408,11 +424,23 @@ fn both_show_all<
 
 #[test]
 fn two_sites_show_both_members(rt: HostRuntime) {
-    assert!(rt; both_show_all(&rt, rt.alloc(), 0));
+    let at_once = Duration::ZERO;
+    assert!(rt; both_show(&rt, rt.alloc(), first(0, at_once, 2), second(0, at_once, 2)));
 }
 
 // A whole of 5,000 members is longer than what may be sent ahead of acknowledgements.
 #[test]
 fn a_long_whole_is_sent_in_parts(rt: HostRuntime) {
-    assert!(rt; both_show_all(&rt, rt.alloc(), 5_000));
+    let at_once = Duration::ZERO;
+    let (first, second) = (first(5_000, at_once, 5_002), second(0, at_once, 5_002));
+    assert!(rt; both_show(&rt, rt.alloc(), first, second));
+}
+
+// Neither site has room for the members of the other, 17,000 in all: each refuses the other's whole, and takes the member that is added
+// once they are linked. They are added between two asks for a whole, which come 5 and 10 seconds after the launch.
+#[test]
+fn full_sites_take_what_fits(rt: HostRuntime) {
+    let linked = Duration::from_millis(8_000);
+    let (first, second) = (first(9_000, linked, 9_002), second(8_000, linked, 8_002));
+    assert!(rt; both_show(&rt, rt.alloc(), first, second));
 }

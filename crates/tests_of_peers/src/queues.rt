@@ -25,11 +25,17 @@ fn assert_taken(rt: &impl Abort, queue: &mut SendQueue, text: &str) {
     }
 }
 
-// Gives a whole that says this text.
-fn give(rt: &impl Abort, alloc: Global, queue: &mut SendQueue, first: u8, text: &str) {
+// Gives a whole that says this text, whenever it was begun.
+fn give_begun(rt: &impl Abort, alloc: Global, queue: &mut SendQueue, first: u8, text: &str) {
     let bytes = whole(rt, alloc, first, text);
     queue.give_whole(&bytes).expect(rt, "memory");
     drop(bytes);
+}
+
+// Begins a whole that is wanted, and gives one that says this text.
+fn give(rt: &impl Abort, alloc: Global, queue: &mut SendQueue, first: u8, text: &str) {
+    assert!(rt; queue.begin_whole());
+    give_begun(rt, alloc, queue, first, text);
 }
 
 #[test]
@@ -89,5 +95,48 @@ fn a_full_queue_waits_for_a_whole(rt: HostRuntime) {
     queue.put(b"last").expect(&rt, "memory");
     assert_taken(&rt, &mut queue, "all");
     assert_taken(&rt, &mut queue, "last");
+    drop(queue);
+}
+
+#[test]
+fn a_whole_answers_no_later_ask(rt: HostRuntime) {
+    let alloc = rt.alloc();
+    let mut queue = SendQueue::new(alloc, BOX_BYTES);
+    assert!(rt; !queue.begin_whole());
+    queue.open();
+    give_begun(&rt, alloc, &mut queue, 1, "before it connected");
+    assert!(rt; queue.is_idle() && queue.wants_whole());
+    assert!(rt; queue.begin_whole());
+    queue.ask_whole();
+    give_begun(&rt, alloc, &mut queue, 1, "all");
+    assert_taken(&rt, &mut queue, "all");
+    assert!(rt; queue.wants_whole());
+    assert!(rt; queue.begin_whole());
+    queue.ask_whole();
+    give_begun(&rt, alloc, &mut queue, 2, "all");
+    assert_taken(&rt, &mut queue, "");
+    give_begun(&rt, alloc, &mut queue, 3, "begun before the ask");
+    assert_taken(&rt, &mut queue, "");
+    give(&rt, alloc, &mut queue, 4, "more");
+    assert!(rt; !queue.wants_whole());
+    assert_taken(&rt, &mut queue, "more");
+    drop(queue);
+}
+
+#[test]
+fn a_whole_that_is_required_waits_though_it_says_the_same(rt: HostRuntime) {
+    let alloc = rt.alloc();
+    let mut queue = SendQueue::new(alloc, BOX_BYTES);
+    queue.require_whole();
+    assert!(rt; !queue.wants_whole());
+    queue.open();
+    give(&rt, alloc, &mut queue, 1, "all");
+    assert_taken(&rt, &mut queue, "all");
+    queue.put(b"one").expect(&rt, "memory");
+    queue.require_whole();
+    assert!(rt; queue.is_idle());
+    give(&rt, alloc, &mut queue, 2, "all");
+    assert_taken(&rt, &mut queue, "all");
+    assert_taken(&rt, &mut queue, "");
     drop(queue);
 }

@@ -4,7 +4,8 @@ ghost use Rattle.std.specs.Prelude.{◌≡◌, false};
 use ami_text::{MemorySink, MemorySource};
 use link_keys::Key;
 use link_stream::{Item, ItemSender, ReceiveFault, SendFault};
-use site_peers::{Acknowledge, InletFault, ItemQueue, LinkInlet, send_items};
+use site_journal::DeskFault;
+use site_peers::{Acknowledge, AcknowledgeFault, InletFault, ItemQueue, LinkInlet, send_items};
 use site_pumps::Inlet;
 use std::alloc::Global;
 use std::process::Abort;
@@ -49,22 +50,49 @@ impl<R> ItemQueue<R> for Turns {
     }
 }
 
-// Counts the bytes that were read.
+// Counts the bytes that were read, and the frames. It ends the link once more bytes than `most` were read.
 struct Count {
     bytes: usize,
+    frames: u32,
+    most: usize,
 }
 
 impl Drop for Count {
     fn drop(self) {
-        let Count { bytes: _ } = self;
+        let Count {
+            bytes: _,
+            frames: _,
+            most: _,
+        } = self;
+    }
+}
+
+impl Count {
+    fn new(most: usize) -> Count {
+        Count {
+            bytes: 0,
+            frames: 0,
+            most,
+        }
     }
 }
 
 impl<R> Acknowledge<R> for Count {
-    fn after_read(&mut self, _rt: &R, count: usize) -> Result<(), SendFault> {
+    fn after_read(&mut self, _rt: &R, count: usize) -> Result<(), AcknowledgeFault> {
         self.bytes = self.bytes.saturating_add(count);
+        if self.bytes > self.most {
+            return Err(AcknowledgeFault::Late);
+        }
         Ok(())
     }
+
+    fn after_item(&mut self, is_frame: bool, _held: usize) {
+        if is_frame {
+            self.frames = self.frames.saturating_add(1);
+        }
+    }
+
+    fn fall_behind(&mut self, _rt: &R, _fault: DeskFault) {}
 }
 
 fn key() -> Key {
@@ -80,7 +108,7 @@ fn what_is_sent_is_received(rt: HostRuntime) {
     assert!(rt; send_items(&rt, &mut turns, &mut sender, &mut sink) == Ok(()));
     assert!(rt; sink.as_slice().len() == 3 * (20 + 44));
     let source = MemorySource::new(sink.as_slice(), 7);
-    let mut inlet = LinkInlet::new(alloc, key(), source, Count { bytes: 0 });
+    let mut inlet = LinkInlet::new(alloc, key(), source, Count::new(1_000));
     for _ in 0..3u32 {
         let frame = inlet.next(&rt).expect(&rt, "a frame");
         assert!(rt; frame.as_slice() == &FRAME[..]);
@@ -89,8 +117,27 @@ fn what_is_sent_is_received(rt: HostRuntime) {
     assert!(rt; inlet.next(&rt).is_none() && inlet.next(&rt).is_none());
     assert!(rt; inlet.fault() == Some(InletFault::Receive(ReceiveFault::Ended)));
     let count = inlet.into_acknowledger();
-    assert!(rt; count.bytes == 3 * (20 + 44));
+    assert!(rt; count.bytes == 3 * (20 + 44) && count.frames == 3);
     drop(count);
+    drop(turns);
+    drop(sender);
+    drop(sink);
+}
+
+#[test]
+fn what_acknowledges_can_end_a_link(rt: HostRuntime) {
+    let alloc = rt.alloc();
+    let mut sink = MemorySink::new(alloc, 5);
+    let mut sender = ItemSender::new(key());
+    let mut turns = Turns { alloc, left: 6 };
+    assert!(rt; send_items(&rt, &mut turns, &mut sender, &mut sink) == Ok(()));
+    let source = MemorySource::new(sink.as_slice(), 7);
+    let mut inlet = LinkInlet::new(alloc, key(), source, Count::new(100));
+    let frame = inlet.next(&rt).expect(&rt, "a frame");
+    drop(frame);
+    assert!(rt; inlet.fault().is_none() && inlet.next(&rt).is_none());
+    assert!(rt; inlet.fault() == Some(InletFault::Acknowledge(AcknowledgeFault::Late)));
+    drop(inlet);
     drop(turns);
     drop(sender);
     drop(sink);

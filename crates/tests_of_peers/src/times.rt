@@ -1,5 +1,7 @@
 //! Numbers of bytes and of milliseconds.
-use site_peers::{BackOff, DialEnd, MOST_AHEAD, ReadCount, Window, WindowFault};
+use site_peers::{
+    BackOff, DialEnd, ItemTime, Lag, LagStep, MOST_AHEAD, ReadCount, Window, WindowFault,
+};
 
 #[test]
 fn a_window_has_room_for_256_kib(rt: HostRuntime) {
@@ -33,4 +35,40 @@ fn pauses_double_up_to_one_and_a_half_seconds(rt: HostRuntime) {
     assert!(rt; pauses.pause(DialEnd::Itself, 7) == 60_000);
     assert!(rt; pauses.pause(DialEnd::WasUp, 100) == 150);
     assert!(rt; pauses.pause(DialEnd::Failed, 0) == 100);
+}
+
+#[test]
+fn an_item_takes_less_than_60_seconds(rt: HostRuntime) {
+    let mut time = ItemTime::new(1_000);
+    assert!(rt; !time.after_read(2_000) && !time.after_read(61_999));
+    assert!(rt; time.after_read(62_000));
+    time.after_item(0);
+    assert!(rt; !time.after_read(70_000));
+    time.after_item(5);
+    assert!(rt; !time.after_read(129_999));
+    assert!(rt; time.after_read(130_000));
+}
+
+#[test]
+fn a_whole_is_asked_for_until_one_is_taken(rt: HostRuntime) {
+    let mut lag = Lag::new(false, 1_000);
+    assert!(rt; lag.step(9_000) == LagStep::Wait);
+    lag.refuse();
+    assert!(rt; lag.step(9_000) == LagStep::Ask && lag.step(13_999) == LagStep::Wait);
+    lag.give();
+    lag.refuse();
+    assert!(rt; lag.step(13_999) == LagStep::Wait && lag.step(14_000) == LagStep::Ask);
+    assert!(rt; lag.step(19_000) == LagStep::Ask);
+    lag.give();
+    assert!(rt; lag.step(23_999) == LagStep::Wait && lag.step(24_000) == LagStep::CaughtUp);
+    assert!(rt; lag.step(30_000) == LagStep::Wait);
+}
+
+#[test]
+fn the_first_whole_of_a_link_answers_an_ask(rt: HostRuntime) {
+    let mut lag = Lag::new(true, 1_000);
+    lag.give();
+    assert!(rt; lag.step(5_999) == LagStep::Wait && lag.step(6_000) == LagStep::CaughtUp);
+    lag = Lag::new(true, 1_000);
+    assert!(rt; lag.step(6_000) == LagStep::Ask);
 }

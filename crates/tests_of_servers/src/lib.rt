@@ -33,4 +33,6 @@ mod sites_served;
 #[cfg(test)]
 mod std_devices;
 #[cfg(test)]
+mod stored_sites_served;
+#[cfg(test)]
 mod worlds;

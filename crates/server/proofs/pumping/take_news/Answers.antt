@@ -10,11 +10,11 @@ pub returns-in_default-clause-calls : goal.returns-in_default-clause-calls
 returns-in_default-clause-calls g c = called_then g.P.Port.makes g.P.Port.refuses _ _ _ c.loop.invariant (called_work g.P.Port.makes g.P.Port.refuses _ _ _ _ c.pump_in-fault.ensures.pumped.work)
 
 -- and perhaps one call more
-pub loop-preserved-in-Ok : goal.loop-preserved-in-Ok
-loop-preserved-in-Ok g c = called_then g.P.Port.makes g.P.Port.refuses _ _ _ (called_then g.P.Port.makes g.P.Port.refuses _ _ _ c.loop.invariant (called_work g.P.Port.makes g.P.Port.refuses _ _ _ _ c.pump_in-fault.ensures.pumped.work)) c.take_again.ensures
+pub loop-preserved-in-Err : goal.loop-preserved-in-Err
+loop-preserved-in-Err g c = called_then g.P.Port.makes g.P.Port.refuses _ _ _ (called_then g.P.Port.makes g.P.Port.refuses _ _ _ c.loop.invariant (called_work g.P.Port.makes g.P.Port.refuses _ _ _ _ c.pump_in-fault.ensures.pumped.work)) c.take_again.ensures
 
-pub returns-in-Err-Unsaved-clause-calls : goal.returns-in-Err-Unsaved-clause-calls
-returns-in-Err-Unsaved-clause-calls g c = called_then g.P.Port.makes g.P.Port.refuses _ _ _ (called_then g.P.Port.makes g.P.Port.refuses _ _ _ c.loop.invariant (called_work g.P.Port.makes g.P.Port.refuses _ _ _ _ c.pump_in-fault.ensures.pumped.work)) c.take_again.ensures
+pub returns-then-ends_site-clause-calls : goal.returns-then-ends_site-clause-calls
+returns-then-ends_site-clause-calls g c = called_then g.P.Port.makes g.P.Port.refuses _ _ _ (called_then g.P.Port.makes g.P.Port.refuses _ _ _ c.loop.invariant (called_work g.P.Port.makes g.P.Port.refuses _ _ _ _ c.pump_in-fault.ensures.pumped.work)) c.take_again.ensures
 
 pub loop-preserved : goal.loop-preserved
 loop-preserved g c = called_then g.P.Port.makes g.P.Port.refuses _ _ _ (called_then g.P.Port.makes g.P.Port.refuses _ _ _ c.loop.invariant (called_work g.P.Port.makes g.P.Port.refuses _ _ _ _ c.pump_in-fault.ensures.pumped.work)) c.take_again.ensures

@@ -1,6 +1,6 @@
 use Rattle.std.proofs.Common.{rules, ◌≡◌, ◌+◌, arith, subst, sym, vec_len}
 use Rattle.site_journal.specs.Journals.{JournalState}
-use Rattle.site_threads.specs.Places.{AtEach}
+use Rattle.launcher.specs.Places.{AtEach}
 use Rattle.server.specs.ServedJournals.{IsServedJournal}
 use Rattle.server.proofs.PlaceLemmas.{each_from, each_front, each_none, each_pop}
 use Rattle.server.proofs.serving.journals_of.Goals as goal

@@ -1,5 +1,5 @@
 use Rattle.std.proofs.Common.{◌≡◌, ◌+◌, ◌≤◌, ℕ, List, vec_capacity, vec_len}
-use Rattle.site_threads.specs.Places.{AtEach}
+use Rattle.launcher.specs.Places.{AtEach}
 use Rattle.server.specs.ServedJournals.{IsServedJournal}
 use Rattle.server.proofs.serving.journals_of.Given as goal
 

@@ -1,7 +1,7 @@
 use Rattle.std.specs.List.{All}
 use Rattle.std.proofs.Common.{rules, ◌≡◌, ◌∙◌, ◌+◌, Some, ap, arith, length, slice_get, subst, sym, vec_len}
 use Rattle.std.proofs.lemmas.List.Elements.{All-cons}
-use Rattle.site_threads.specs.Places.{AtEach}
+use Rattle.launcher.specs.Places.{AtEach}
 use Rattle.site_threads.specs.declared.site_tasks.SiteTasks.{SiteTasks}
 use Rattle.server.specs.Tasks.{HasItsTasks, tasks_for}
 use Rattle.server.specs.declared.site.Site.{Site}

@@ -1,6 +1,6 @@
 use Rattle.std.specs.List.{All}
 use Rattle.std.proofs.Common.{◌≡◌, ◌+◌, ◌≤◌, Some, slice_get, vec_capacity, vec_len}
-use Rattle.site_threads.specs.Places.{AtEach}
+use Rattle.launcher.specs.Places.{AtEach}
 use Rattle.server.specs.Tasks.{HasItsTasks}
 use Rattle.server.proofs.serving.sites_of.Given as goal
 

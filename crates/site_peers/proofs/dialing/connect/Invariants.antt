@@ -1,4 +1,3 @@
-use Rattle.std.proofs.Common.{◌-◌}
 use Rattle.site_peers.proofs.dialing.connect.Given as goal
 
 abbrev pub invariant-loop-address : goal.invariant-loop-address

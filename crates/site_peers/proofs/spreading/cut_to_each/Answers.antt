@@ -9,4 +9,4 @@ returns-in-Err-clause-spread g c = ([], spread_refused g.P.Port.makes g.P.Port.r
 -- the receipt was handed to each
 pub returns-clause-spread : goal.returns-clause-spread
 returns-clause-spread g c = let receipt = c.in-Ok.receipt in
-    (receipt ∷ [], spread_made g.P.Port.makes g.P.Port.refuses g.O.Outbox.handed _ _ _ _ receipt c.in-Ok.ensures.made c.hand_to_each.ensures, (receipt, c.in-Ok.ensures.deed, refl), tt)
+    (receipt ∷ [], spread_made g.P.Port.makes g.P.Port.refuses g.O.Outbox.handed _ _ _ _ receipt c.in-Ok.ensures.made c.hand_to_each-is_whole_wanted.ensures.handed, (receipt, c.in-Ok.ensures.deed, refl, c.hand_to_each-is_whole_wanted.ensures.none), tt)

@@ -10,14 +10,14 @@ pub returns-in-Err-clause-spread : goal.returns-in-Err-clause-spread
 returns-in-Err-clause-spread g c = let step = c.in-Err.ensures.spread in (step.0, step.1, tt, inl (ap cut_count step.3))
 
 -- no outbox wants a whole
-pub returns-then-not-any_wants_whole-clause-spread : goal.returns-then-not-any_wants_whole-clause-spread
-returns-then-not-any_wants_whole-clause-spread g c = let step = c.in_default.ensures.spread in
-    (step.0, step.1, (ap cut_count step.2.2 ∙ cut_counts step.2.0 step.2.1, inr (c.any_wants_whole.ensures (search rules))), tt)
+pub returns-in-Ok-false-clause-spread : goal.returns-in-Ok-false-clause-spread
+returns-in-Ok-false-clause-spread g c = let step = c.in-Ok-false.ensures.spread in let cut = step.2 in
+    (step.0, step.1, (ap cut_count cut.2 ∙ cut_counts cut.0 cut.1, inr (cut.0, cut.2, cut.1, cut.3 (search rules))), tt)
 
 -- a whole is made, or the port refuses it
-pub returns-clause-spread : goal.returns-clause-spread
-returns-clause-spread g c =
-    let step = c.in_default.ensures.spread in
+pub returns-in-Ok-true-clause-spread : goal.returns-in-Ok-true-clause-spread
+returns-in-Ok-true-clause-spread g c =
+    let step = c.in-Ok-true.ensures.spread in
     let whole = c.whole_to_each.ensures.spread in (
       step.0 ++ whole.0,
       spread_more g.P.Port.makes g.P.Port.refuses g.O.Outbox.handed _ _ _ _ _ _ step.0 whole.0 (result_err c.whole_to_each.result) step.1 whole.1,

@@ -1,6 +1,6 @@
 use Rattle.std.specs.List.{All}
 use Rattle.std.proofs.Common.{ℕ, ◌≡◌, ◌+◌, ◌≤◌, Some, slice_get, vec_capacity, vec_len}
-use Rattle.site_threads.specs.Places.{AtEach}
+use Rattle.launcher.specs.Places.{AtEach}
 use Rattle.site_worker.specs.WorkTasks.{FirstHasGate, IsRunOf}
 use Rattle.site_worker.specs.declared.ends.TheConstants.{MOST_RUN_PASSES}
 use Rattle.site_worker.proofs.ends.runs_of.Given as goal

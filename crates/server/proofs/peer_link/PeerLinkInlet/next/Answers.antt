@@ -10,7 +10,8 @@ returns-then-not-is_empty-clause-given g c =
     let item = c.in-Some-recv.item.items in
     let some : 0 < length item = search rules in
     ap (λ (r : Receiving). frames_among r.received) c.in-Some-recv.ensures.received
-    ∙ frames_next c.loop.self.link.received item some ∙ ap (λ l. l ++ item ∷ []) c.loop.invariant
+    ∙ frames_next c.loop.self.link.received item some
+    ∙ ap (λ l. l ++ item ∷ []) (c.loop.invariant ∙ ap (λ (r : Receiving). frames_among r.received) c.note_first.ensures)
 
 -- a mark
 pub loop-preserved : goal.loop-preserved

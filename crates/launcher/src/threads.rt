@@ -1,0 +1,134 @@
+//! The tasks of one site, each in a thread of its own.
+ghost use Rattle.std.specs.Prelude.{◌≡◌, ◌≤◌, IfOk, vec_capacity, vec_len};
+ghost use Rattle.launcher.specs.Tasks.{AreAllDone};
+
+use crate::Workplace;
+use crate::site_fault::SiteFault;
+use crate::start::Start;
+use crate::tasks::{TaskResults, Workers, end_tasks, join_tasks, start_tasks};
+use dots::Memory;
+use std::alloc::Global;
+use std::sync::Wait;
+use std::thread;
+use std::thread::{Scope, Threads};
+
+// Room for `number` threads, and for what they give.
+fn room_for<R, S, T, P: Drop, O: Drop, W: Workplace<S, R, T, P, O>>(
+    alloc: Global,
+    number: usize,
+) -> Result<(Workers<S, R, T, P, O, W>, TaskResults<P, O>), Memory>
+    ensures none { IfOk result (λ room. vec_len room.0 ≡ 0) }
+    ensures workers { IfOk result (λ room. number ≤ vec_capacity room.0) }
+    ensures no_passes { IfOk result (λ room. vec_len room.1.passes ≡ 0) }
+    ensures passes { IfOk result (λ room. number ≤ vec_capacity room.1.passes) }
+    ensures no_outputs { IfOk result (λ room. vec_len room.1.outputs ≡ 0) }
+    ensures outputs { IfOk result (λ room. number ≤ vec_capacity room.1.outputs) }
+{
+    let workers = Vec::with_capacity(alloc, number)?;
+    let passes = match Vec::with_capacity(alloc, number) {
+        Ok(passes) => passes,
+        Err(_) => {
+            drop(workers);
+            return Err(Memory);
+        }
+    };
+    match Vec::with_capacity(alloc, number) {
+        Ok(outputs) => Ok((workers, TaskResults { passes, outputs })),
+        Err(_) => {
+            drop(workers);
+            drop(passes);
+            Err(Memory)
+        }
+    }
+}
+
+// Starts all threads of a site, and joins them. If a thread can't be started no site begins, and the
+// site's other threads end first.
+fn run_tasks<
+    's,
+    'e: 's,
+    R: Threads + Wait + Sync,
+    S: Sync,
+    T: Send + Drop + 's,
+    P: Send + Drop + 's,
+    O: Send + Drop + 's,
+    W: Workplace<S, R, T, P, O> + Sync + 's,
+>(
+    scope: &'s Scope<'s, &'e ()>,
+    rt: &'s R,
+    alloc: Global,
+    start: &'s Start,
+    shared: &'s S,
+    place: &'s W,
+    passes: Vec<P>,
+    tasks: Vec<T>,
+) -> Result<TaskResults<P, O>, SiteFault>
+    requires passes { vec_len passes ≡ vec_len tasks }
+    ensures { IfOk result (λ all.
+        AreAllDone W.does tasks.items passes.items all.passes.items all.outputs.items) }
+{
+    let (mut workers, room) = match room_for(alloc, tasks.len()) {
+        Ok(room) => room,
+        Err(_) => {
+            drop(passes);
+            drop(tasks);
+            return Err(SiteFault::Memory);
+        }
+    };
+    let started = start_tasks(
+        scope,
+        rt,
+        alloc,
+        start,
+        shared,
+        place,
+        passes,
+        tasks,
+        &mut workers,
+    );
+    if let Err(fault) = started {
+        start.fail(rt);
+        end_tasks(rt, workers);
+        drop(room);
+        return Err(fault);
+    }
+    start.one_ready(rt);
+    join_tasks(rt, workers, room)
+}
+
+/// Does each of a site's tasks at this place, by the pass of the task's place and in a thread of its
+/// own, and returns when all have ended. No task begins before all threads of all sites run.
+///
+/// Errors, in order: 1 `NoThread`, if the system could not start a thread; 2 `Memory`; 3 `NotBegun`,
+/// if another site can't have its threads. No task of the site is then done, and all are dropped (this
+/// project's own).
+pub fn run_threads<
+    R: Threads + Wait + Sync,
+    S: Sync,
+    T: Send + Drop,
+    P: Send + Drop,
+    O: Send + Drop,
+    W: Workplace<S, R, T, P, O> + Sync,
+>(
+    rt: &R,
+    alloc: Global,
+    start: &Start,
+    shared: &S,
+    place: &W,
+    passes: Vec<P>,
+    tasks: Vec<T>,
+) -> Result<TaskResults<P, O>, SiteFault>
+    requires passes { vec_len passes ≡ vec_len tasks }
+    ensures done { IfOk result (λ all.
+        AreAllDone W.does tasks.items passes.items all.passes.items all.outputs.items) }
+{
+    thread::scope(
+        thread::scope_env(),
+        rt,
+        move |scope| -> Result<TaskResults<P, O>, SiteFault>
+            requires passes { vec_len passes ≡ vec_len tasks }
+            ensures { IfOk result (λ all.
+                AreAllDone W.does tasks.items passes.items all.passes.items all.outputs.items) }
+        { run_tasks(scope, rt, alloc, start, shared, place, passes, tasks) },
+    )
+}

@@ -1,0 +1,23 @@
+use Rattle.std.proofs.Common.{rules, ◌≡◌, ◌∙◌, ◌⊎◌, ⊎_elim, ap, refl}
+use Rattle.pass_desk.specs.RingingDesks.{inner_desk}
+use Rattle.pass_desk.specs.declared.ringing_desk.RingingDesk.{RingingDesk}
+use Rattle.site_desk.specs.Passes.{PassState}
+use Rattle.stored_desk.specs.Failing.{HasDoneUnanswered}
+use Rattle.stored_pass_desk.specs.StoredPassDesks.{AnswersByStoredPass}
+use Rattle.serving_clients.proofs.AnsweringLemmas.{clients_keep}
+use Rattle.linked_site.proofs.stored_working.answer_by.Goals as goal
+
+-- each answer keeps the number of the pass, and so does each refusal
+pub returns : goal.returns
+returns g c =
+    let kept = clients_keep
+    (λ (d : RingingDesk PassState) ask answer (e : RingingDesk PassState). AnswersByStoredPass g.L.SiteLedger.base (inner_desk d) ask answer (inner_desk e))
+    (λ (d : RingingDesk PassState) ask (e : RingingDesk PassState). (inner_desk e ≡ inner_desk d) ⊎ HasDoneUnanswered g.L.SiteLedger.base (inner_desk d) (inner_desk e))
+    (λ (d e : RingingDesk PassState). (inner_desk e).ordinal ≡ (inner_desk d).ordinal)
+    (λ d. refl) (λ d mid e first then. then ∙ first)
+    (record {
+      answer = λ d e ask answer is. ap (λ (p : PassState). p.ordinal) is.done.counted;
+      refusal = λ d e ask is. ⊎_elim (λ same. ap (λ (p : PassState). p.ordinal) same) (λ done. ap (λ (p : PassState). p.ordinal) done.done.counted) is;
+    })
+    _ _ c.answer.ensures in
+    search rules

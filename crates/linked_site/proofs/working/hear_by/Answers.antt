@@ -1,0 +1,8 @@
+use Rattle.std.proofs.Common.{rules}
+use Rattle.site_desk.specs.Ports.{lent_pass}
+use Rattle.linked_site.proofs.KeepingCalls.{desk_port_called}
+use Rattle.linked_site.proofs.working.hear_by.Goals as goal
+
+-- the port has called by its pass alone
+pub returns : goal.returns
+returns g c = let kept = desk_port_called (λ p. lent_pass p) g.L.SiteLedger.site g.L.SiteLedger.names _ _ c.hear.ensures in search rules

@@ -1,0 +1,47 @@
+ghost use Rattle.std.specs.Prelude.{◌≡◌, IfOk};
+
+use crate::LinkedSiteFault;
+use link_keys::Key;
+use std::random::RandomSource;
+
+/// How many peers a site dials at most: its own address may be one of 64.
+pub const MOST_PEERS: usize = 64;
+
+/// How a site is linked: which store it is of, the secret that all sites share, and where its peers are (this project's own).
+#[derive(Drop)]
+pub struct LinkSettings {
+    /// The key of the secret that all sites share.
+    pub key: Key,
+    /// The 16 bytes that name the site's store.
+    pub store: [u8; 16],
+    /// How often that store was started, this start included.
+    pub starts: u64,
+    /// The addresses of its peers, at most 64, each a host and a port, as `10.0.0.7:7038`. The site's own may be among them.
+    pub peers: Vec<String>,
+}
+
+impl LinkSettings {
+    /// The settings of a site without a store: 16 random bytes are its name, and it was started once. Error: `NoRandom`.
+    pub fn without_store<R: RandomSource>(
+        rt: &R,
+        key: Key,
+        peers: Vec<String>,
+    ) -> Result<LinkSettings, LinkedSiteFault>
+        ensures key { IfOk result (λ links. links.key ≡ key) }
+        ensures starts { IfOk result (λ links. links.starts ≡ 1) }
+        ensures peers { IfOk result (λ links. links.peers ≡ peers) }
+    {
+        let mut store = [0u8; 16];
+        if rt.fill_bytes(&mut store).is_err() {
+            drop(key);
+            drop(peers);
+            return Err(LinkedSiteFault::NoRandom);
+        }
+        Ok(LinkSettings {
+            key,
+            store,
+            starts: 1,
+            peers,
+        })
+    }
+}

@@ -1,0 +1,172 @@
+//! A linked site with a store.
+ghost use Rattle.std.specs.Prelude.{◌≡◌, ◌≤◌, [], IfOk, IfSome, Some, slice_get, vec_len};
+ghost use Rattle.replica.specs.Site.{IsSameSite};
+ghost use Rattle.stored_threads.specs.StoredEnds.{IsStoreOf};
+ghost use Rattle.linked_site.specs.LinkedJournals.{IsLinkedJournal};
+ghost use Rattle.linked_site.specs.declared.link_settings.TheConstants.{MOST_PEERS};
+ghost use Rattle.linked_site.specs.declared.tasks.TheConstants.{MOST_PLACES};
+
+use crate::linked_site::{ClientSettings, LinkedSite};
+use crate::site_end::reason_of;
+use crate::tasks::{LinkedTask, tasks_of};
+use crate::{JOURNAL_STEPS, LinkSettings, LinkedSiteFault, MOST_PEERS, MOST_PLACES, StoredSiteEnd};
+use event_log::EventLog;
+use replica::Replica;
+use serving_clients::SessionSettings;
+use site_peers::EndReason;
+use std::alloc::Global;
+use std::net::{Net, TcpListener, TcpStream};
+use std::random::RandomSource;
+use std::sync::{Arc, Wait};
+use std::thread::Threads;
+use std::time::Clock;
+use stored_desk::StepStore;
+use stored_threads::{StoredSiteOutput, StoredSiteTasks, run_stored_sites};
+
+// What the one site has ended with that was launched.
+fn end_of<D: StepStore>(ends: Vec<StoredSiteOutput<D, Option<EndReason>>>) -> StoredSiteEnd<D>
+    requires { vec_len ends ≡ 1 }
+    ensures journal { (end : _) → slice_get ends.items 0 ≡ Some end
+        → result.journal ≡ end.journal }
+    ensures store { (end : _) → slice_get ends.items 0 ≡ Some end → result.store ≡ end.store }
+    ensures fault { (end : _) → slice_get ends.items 0 ≡ Some end → result.fault ≡ end.fault }
+{
+    let mut ends = ends;
+    let Some(end) = ends.pop() else {
+        unreachable!();
+    };
+    drop(ends);
+    let StoredSiteOutput {
+        journal,
+        outputs,
+        store,
+        fault,
+    } = end;
+    let reason = reason_of(outputs.as_slice());
+    drop(outputs);
+    StoredSiteEnd {
+        reason,
+        journal,
+        store,
+        fault,
+    }
+}
+
+// Runs a site over its store whose threads share this and do these tasks.
+fn run_site<
+    R: Net<Listener = TcpListener, Stream = TcpStream>
+        + Threads
+        + Wait
+        + Clock
+        + RandomSource
+        + Sync,
+    D: StepStore + Send,
+>(
+    rt: &R,
+    alloc: Global,
+    replica: Replica,
+    store: D,
+    shared: LinkedSite,
+    tasks: Vec<LinkedTask>,
+) -> Result<StoredSiteEnd<D>, LinkedSiteFault>
+where
+    D::Group: Send,
+    D::Base: Send,
+    requires some { 1 ≤ vec_len tasks }
+    requires few { vec_len tasks ≤ 256 }
+    requires holds { D.holds store [] }
+    requires keeps { D.keeps store [] }
+    requires begun { IsSameSite (D.begun store) replica }
+    ensures journal { IfOk result (λ end. IsLinkedJournal replica end.journal) }
+    ensures stored { IfOk result (λ end. IfSome end.store (λ store.
+        IsStoreOf D.holds D.keeps D.begun replica end.fault store)) }
+{
+    let mut sites = match Vec::with_capacity(alloc, 1) {
+        Ok(sites) => sites,
+        Err(_) => {
+            drop(replica);
+            drop(store);
+            drop(shared);
+            drop(tasks);
+            return Err(LinkedSiteFault::Memory);
+        }
+    };
+    sites.push_reserved(StoredSiteTasks {
+        replica,
+        store,
+        shared,
+        tasks,
+    });
+    match run_stored_sites(rt, alloc, JOURNAL_STEPS, sites) {
+        Ok(ends) => Ok(end_of(ends)),
+        Err(fault) => Err(LinkedSiteFault::from(fault)),
+    }
+}
+
+/// Serves a site with a store as `serve_linked_site` serves one without. `replica` is the site as its store has it, and `store` has no step
+/// since. No reply leaves before the step that it answers for is durable, and no frame before its cut is. What the site takes from peers is
+/// saved within 50 ms. Once the store has 10,000 rows or 64 MiB since its base, the site becomes its base. Clients are answered once a frame of
+/// each peer was taken, or after 4 seconds.
+///
+/// It returns when the site has ended, for the same reasons, or as `StoreFailed`, since a commit has failed: then no further reply leaves.
+/// All steps are saved before it returns, unless a commit has failed.
+///
+/// Errors as of `serve_linked_site`; the store is dropped.
+pub fn serve_stored_linked_site<
+    R: Net<Listener = TcpListener, Stream = TcpStream>
+        + Threads
+        + Wait
+        + Clock
+        + RandomSource
+        + Sync,
+    D: StepStore + Send,
+>(
+    rt: &R,
+    alloc: Global,
+    settings: &SessionSettings,
+    places: u16,
+    links: LinkSettings,
+    replica: Replica,
+    store: D,
+    clients: TcpListener,
+    heard: TcpListener,
+    sessions: Option<u32>,
+    events: &Arc<EventLog, Global>,
+) -> Result<StoredSiteEnd<D>, LinkedSiteFault>
+where
+    D::Group: Send,
+    D::Base: Send,
+    requires places { places ≤ MOST_PLACES }
+    requires peers { vec_len links.peers ≤ MOST_PEERS }
+    requires holds { D.holds store [] }
+    requires keeps { D.keeps store [] }
+    requires begun { IsSameSite (D.begun store) replica }
+    ensures journal { IfOk result (λ end. IsLinkedJournal replica end.journal) }
+    ensures stored { IfOk result (λ end. IfSome end.store (λ store.
+        IsStoreOf D.holds D.keeps D.begun replica end.fault store)) }
+{
+    let settings = ClientSettings {
+        session: settings,
+        places,
+        connections: sessions,
+        events,
+    };
+    let peers = links.peers.len();
+    let shared = match LinkedSite::new(alloc, &settings, links, &replica, clients, heard) {
+        Ok(shared) => shared,
+        Err(fault) => {
+            drop(replica);
+            drop(store);
+            return Err(fault);
+        }
+    };
+    match tasks_of(alloc, places, peers, true) {
+        Ok(tasks) => run_site(rt, alloc, replica, store, shared, tasks),
+        Err(_) => {
+            drop(replica);
+            drop(store);
+            drop(shared);
+            Err(LinkedSiteFault::Memory)
+        }
+    }
+}

@@ -1,0 +1,121 @@
+//! The tasks of the threads of a linked site with a store.
+ghost use Rattle.std.specs.Prelude.{◌≡◌};
+
+use crate::linked_site::LinkedSite;
+use crate::tasks::LinkedTask;
+use crate::working::{answer, dial, hear, spread_news};
+use pass_desk::RingingDesk;
+use site_desk::Pass;
+use site_journal::DeskFault;
+use site_peers::EndReason;
+use std::alloc::Global;
+use std::net::{Net, TcpListener, TcpStream};
+use std::random::RandomSource;
+use std::sync::Wait;
+use std::time::{Clock, Duration};
+use stored_desk::{StepStore, StoredDesk, StoredLedger, StoredPort};
+use stored_pass_desk::{StoredPassDesk, save_all};
+use stored_threads::{StoredTask, TaskEnd};
+
+// The time between two saves of what the site has taken, in milliseconds.
+const SAVE_MILLIS: u64 = 50;
+
+// How often it is looked whether a frame of each peer was taken, and the time between two looks, in milliseconds.
+const LOOKS: u32 = 80;
+
+const LOOK_MILLIS: u64 = 50;
+
+// Waits until a frame of each peer was taken, for at most 4 seconds, or until the site ends. So a site whose store is an older copy mostly finds
+// that out before it makes an add again that it has forgotten.
+fn await_peers<R: Wait + Clock>(rt: &R, site: &LinkedSite) {
+    let pause = Duration::from_millis(LOOK_MILLIS);
+    for _ in 0..LOOKS {
+        if site.links.taken_count(rt) >= site.links.peer_count() {
+            return;
+        }
+        if site.links.ending().wait_within(rt, pause) {
+            return;
+        }
+    }
+}
+
+// Answers the clients of a site by this pass, once a frame of each peer was taken, or after 4 seconds.
+fn answer_by<
+    D: StepStore,
+    L: StoredLedger,
+    R: Net<Listener = TcpListener, Stream = TcpStream> + Wait + Clock,
+>(rt: &R, alloc: Global, site: &LinkedSite, desk: &StoredDesk<D, L>, pass: Pass<L>) -> Pass<L>
+    ensures { result.ordinal ≡ pass.ordinal }
+{
+    await_peers(rt, site);
+    let mut ringing = RingingDesk::new(StoredPassDesk::new(desk, pass), site.bell());
+    answer(rt, alloc, site, &mut ringing);
+    ringing.into_inner().into_pass()
+}
+
+// Makes the frames of a site by this pass.
+fn spread_by<
+    D: StepStore,
+    L: StoredLedger,
+    R: Net<Listener = TcpListener, Stream = TcpStream> + Wait + Clock,
+>(rt: &R, alloc: Global, site: &LinkedSite, desk: &StoredDesk<D, L>, pass: &mut Pass<L>)
+    ensures { pass.new.ordinal ≡ pass.old.ordinal }
+{
+    let port = StoredPort::new(desk, pass);
+    spread_news(rt, alloc, site, desk, port);
+}
+
+// Hears the peers of a site by this pass.
+fn hear_by<
+    D: StepStore,
+    L: StoredLedger,
+    R: Net<Listener = TcpListener, Stream = TcpStream> + Wait + Clock + RandomSource,
+>(rt: &R, alloc: Global, site: &LinkedSite, desk: &StoredDesk<D, L>, pass: &mut Pass<L>)
+    ensures { pass.new.ordinal ≡ pass.old.ordinal }
+{
+    let port = StoredPort::new(desk, pass);
+    hear(rt, alloc, site, desk, port);
+}
+
+// Saves every 50 ms what the site has taken, until the site ends. Where the store has failed, it ends the site.
+fn save_to_the_end<
+    D: StepStore,
+    L: StoredLedger,
+    R: Net<Listener = TcpListener, Stream = TcpStream> + Wait + Clock,
+>(rt: &R, alloc: Global, site: &LinkedSite, desk: &StoredDesk<D, L>) {
+    let pause = Duration::from_millis(SAVE_MILLIS);
+    for _ in rt.forever() {
+        if site.links.ending().wait_within(rt, pause) {
+            return;
+        }
+        if let Err(DeskFault::Unsaved) = save_all(rt, desk) {
+            site.end(rt, alloc, EndReason::StoreFailed);
+            return;
+        }
+    }
+}
+
+impl<R: Net<Listener = TcpListener, Stream = TcpStream> + Wait + Clock + RandomSource> StoredTask<
+    LinkedSite,
+    R,
+> for LinkedTask {
+    fn run<D: StepStore, L: StoredLedger>(
+        self,
+        rt: &R,
+        alloc: Global,
+        shared: &LinkedSite,
+        desk: &StoredDesk<D, L>,
+        pass: Pass<L>,
+    ) -> TaskEnd<L, Option<EndReason>> {
+        let mut pass = pass;
+        match self {
+            LinkedTask::Answer => pass = answer_by(rt, alloc, shared, desk, pass),
+            LinkedTask::Spread => spread_by(rt, alloc, shared, desk, &mut pass),
+            LinkedTask::Dial(place) => dial(rt, alloc, shared, place),
+            LinkedTask::Hear => hear_by(rt, alloc, shared, desk, &mut pass),
+            LinkedTask::Save => save_to_the_end(rt, alloc, shared, desk),
+        }
+        let output = shared.links.ending().reason(rt);
+        TaskEnd { pass, output }
+    }
+}

@@ -1,5 +1,0 @@
-use Rattle.server.specs.Answering.{HasAnsweredClients}
-use Rattle.server.proofs.working.answer_clients.Given as goal
-
-abbrev pub invariant-loop : goal.invariant-loop
-invariant-loop g l = HasAnsweredClients g.D.Desk.answers g.D.Desk.refuses l.initial.desk l.desk

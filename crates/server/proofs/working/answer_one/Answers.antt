@@ -1,6 +1,0 @@
-use Rattle.serve.proofs.Working.{no_work}
-use Rattle.server.proofs.working.answer_one.Goals as goal
-
--- no client was answered
-pub returns-then-is_stopped : goal.returns-then-is_stopped
-returns-then-is_stopped g c = no_work g.D.Desk.answers g.D.Desk.refuses c.args.desk.now

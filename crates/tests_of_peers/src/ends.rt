@@ -1,0 +1,14 @@
+//! Why a site ends.
+use site_peers::{EndReason, Ending};
+use std::time::Duration;
+
+#[test]
+fn the_first_reason_stays(rt: HostRuntime) {
+    let ending = Ending::new();
+    assert!(rt; ending.reason(&rt).is_none() && !ending.wait_within(&rt, Duration::ZERO));
+    assert!(rt; ending.end(&rt, EndReason::NotMine));
+    assert!(rt; !ending.end(&rt, EndReason::Asked));
+    assert!(rt; ending.reason(&rt) == Some(EndReason::NotMine));
+    assert!(rt; ending.wait_within(&rt, Duration::from_secs(60)));
+    drop(ending);
+}
