@@ -7,9 +7,9 @@
 A case is files of one stem. Its kind is the ending of the first, and decides which program runs it:
 
     STEM.script                standard input of queue_sites
-    STEM.session               standard input of session_cases
-    STEM.frames                standard input of frame_cases
-    STEM.steps                 standard input of site_cases
+    STEM.session               standard input of test_program session
+    STEM.frames                standard input of test_program frames
+    STEM.steps                 standard input of test_program journal, or desk
     STEM.expected              what the program must write to standard output, byte for byte
     STEM.words                 the words of the command line, one a line, where they are not those of the kind
     STEM.status                the exit status that it must end with, where that is not 0
@@ -33,17 +33,18 @@ SECONDS_OF_A_CASE = 60
 
 
 class Kind(NamedTuple):
-    """A kind of cases: the program that runs them, and its words where a case has none of its own."""
+    """A kind of cases: the program that runs them, its first words, and the others where a case has none of its own."""
 
     program: str
+    first: list
     words: list
 
 
 KINDS = {
-    "script": Kind("queue_sites", ["script", "1", "sales"]),
-    "session": Kind("session_cases", ["1024", "", "", "sales"]),
-    "frames": Kind("frame_cases", []),
-    "steps": Kind("site_cases", ["journal", "0", "20", "sales"]),
+    "script": Kind("queue_sites", [], ["script", "1", "sales"]),
+    "session": Kind("test_program", ["session"], ["1024", "", "", "sales"]),
+    "frames": Kind("test_program", ["frames"], []),
+    "steps": Kind("test_program", [], ["journal", "0", "20", "sales"]),
 }
 PARTS = ("expected", "words", "status")
 
@@ -61,7 +62,8 @@ class Case(NamedTuple):
 
     def words(self):
         """The words of the command line."""
-        return self.part("words").decode().split("\n")[:-1] if "words" in self.parts else KINDS[self.kind].words
+        kind = KINDS[self.kind]
+        return kind.first + (self.part("words").decode().split("\n")[:-1] if "words" in self.parts else kind.words)
 
 
 def is_named(case, names):

@@ -13,9 +13,7 @@ MOST_RUNS = 65_536
 MOST_TOTALS = 16_384
 MOST_FRAME_BYTES = 7_618_588
 CHANGES, ROOM_OF_CHANGES = 20_000, 48 << 20  # twice what they take
-FRAMES = f"{folder('frame_cases')}/out/frame_cases"
-SESSIONS = f"{folder('session_cases')}/out/session_cases"
-SITES = f"{folder('site_cases')}/out/site_cases"
+TEST_PROGRAM = f"{folder('test_program')}/out/test_program"
 
 
 def reply(response, message):
@@ -143,7 +141,7 @@ def totals_of_all_sites():
 
 def check_frame(what, given, lines):
     """Reads a frame: it must give `lines` lines, of which the last spells it again; or have a fault, if `lines` is one."""
-    ran = run(FRAMES, [], given.hex().encode() + b"\n")
+    ran = run(TEST_PROGRAM, ["frames"], given.hex().encode() + b"\n")
     told = ran.stdout.decode().split("\n")[:-1]
     wanted = [given.hex()] if isinstance(lines, int) else [lines]
     if told[-1:] != wanted or len(told) != (lines if isinstance(lines, int) else 1) or ran.returncode:
@@ -182,7 +180,7 @@ def session_of_all_members():
     asked += ["Action: QueueStatus\r\n\r\n", "Action: Logoff\r\n\r\n"]
     replies = [ADDED] * MOST_MEMBERS + [report(interfaces), reply("Goodbye", "Thanks for all the fish.")]
     wanted = "".join(["Queue Sites Call Manager/1.0.0\r\n", *replies]).encode()
-    ran = run(SESSIONS, ["1024", "", "", "sales"], "".join(asked).encode())
+    ran = run(TEST_PROGRAM, ["session", "1024", "", "", "sales"], "".join(asked).encode())
     if ran.stdout != wanted or ran.returncode:
         why = first_difference(wanted, ran.stdout) if ran.stdout != wanted else f"the status is {ran.returncode}"
         raise Failed(f"in the session of all members {why}")
@@ -208,7 +206,7 @@ def frames_that_a_site_has_no_room_for():
                 lines.append(f"step {steps}: {word}" if is_step else f"refused {word}")
                 steps += is_step
             wanted = "\n".join([*lines, "settled", f"{steps} steps, 0 of them dropped", ""]).encode()
-            ran = run(SITES, [where, "0", "5", "sales"], "\n".join(script).encode())
+            ran = run(TEST_PROGRAM, [where, "0", "5", "sales"], "\n".join(script).encode())
             if ran.stdout != wanted or ran.returncode:
                 raise Failed(f"a {where} that is full writes {ran.stdout!r}, with status {ran.returncode}")
     return f"a journal and a desk of {MOST_MEMBERS:,} members or {MOST_RUNS:,} runs, and a frame with one more"
@@ -234,9 +232,7 @@ TESTS = {
         totals_of_all_sites,
         changes_with_little_memory,
     ],
-    "frame_cases": [frames_past_the_limits],
-    "session_cases": [session_of_all_members],
-    "site_cases": [frames_that_a_site_has_no_room_for],
+    "test_program": [frames_past_the_limits, session_of_all_members, frames_that_a_site_has_no_room_for],
 }
 
 

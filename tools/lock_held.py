@@ -1,5 +1,5 @@
 """Counts how many instructions a site's lock is held for: lock_held.py [OBJECT]. The steps are done by one pass of a desk, by the program
-`site_cases`, and counted by callgrind, of valgrind. Counted are the methods of the journal that a desk calls under its lock; what the
+`test_program`, and counted by callgrind, of valgrind. Counted are the methods of the journal that a desk calls under its lock; what the
 site did before is taken off. OBJECT is the object file of another build of the program, such as one of an older commit.
 
 The program has no symbols, so its object file is linked with them first, by the C compiler. The status is 2 where valgrind or the
@@ -52,7 +52,7 @@ ROWS = [
 
 def linked(room, made):
     """The program of an object file, with its symbols, and the functions of the journal that it has."""
-    program = f"{room}/site_cases"
+    program = f"{room}/test_program"
     of_c = f"{os.path.dirname(os.path.dirname(os.path.realpath(shutil.which('rt'))))}/c"
     subprocess.run(["cc", "-o", program, made, f"{of_c}/libos_c.a", f"{of_c}/liblibc_c.a", "-lpthread"], check=True)
     names = subprocess.run(["nm", program], stdout=subprocess.PIPE, check=True, text=True).stdout
@@ -75,7 +75,7 @@ def main():
         if not shutil.which(name):
             print(f"lock_held.py: nothing is counted: the program {name} is missing", file=sys.stderr)
             return 2
-    made = sys.argv[1] if len(sys.argv) > 1 else f"{folder('site_cases')}/out/site_cases.o"
+    made = sys.argv[1] if len(sys.argv) > 1 else f"{folder('test_program')}/out/test_program.o"
     with tempfile.TemporaryDirectory() as room:
         program, functions = linked(room, made)
         if len(functions) < 5:

@@ -84,9 +84,9 @@ TESTS = [
 ]
 
 
-# The cases of programs that do a line again, by their names and folders.
+# The cases of programs that do a line again, by their kinds, and their names and folders.
 CASES = {
-    "frame_cases": [
+    "frames": [
         "deltas/a_conflict_changes_nothing",
         "deltas/a_newer_dot_of_a_site_replaces_its_older_one",
         "deltas/a_total_is_raised_up_to_its_limit",
@@ -95,7 +95,7 @@ CASES = {
         "deltas/sets_are_joined_without_totals",
         "deltas/totals_are_the_greater_of_both",
     ],
-    "site_cases": [
+    "steps": [
         "journals",
         "desks/a_full_journal_goes_on_after_a_checkpoint",
         "desks/frames_that_are_not_taken_change_nothing",
@@ -168,16 +168,20 @@ def run_case(case, program, run_refusing):
     return again, allocations - again
 
 
-def run_cases(program, run_refusing):
-    """Runs the cases of a program. Returns a line that reports what was run."""
-    kind = next(it for it, of in cases.KINDS.items() if of.program == program)
-    found = [it for it in cases.all_cases() if it.kind == kind and cases.is_named(it, CASES[program])]
+def crates_of_cases():
+    """The programs that the cases are run by."""
+    return sorted({cases.KINDS[kind].program for kind in CASES})
+
+
+def run_cases(kind, run_refusing):
+    """Runs the cases of a kind. Returns a line that reports what was run."""
+    found = [it for it in cases.all_cases() if it.kind == kind and cases.is_named(it, CASES[kind])]
     path = cases.built(kind)
     again, ended = (sum(it) for it in zip(*(run_case(it, path, run_refusing) for it in found)))
     if not again:
-        raise Failed(f"no refused allocation of {program} led to a line that was done again")
+        raise Failed(f"no refused allocation of cases of {kind} led to a line that was done again")
     return (
-        f"each of the {again + ended} allocations of {len(found)} cases of {program} refused in turn: {again} changed nothing, and the "
+        f"each of the {again + ended} allocations of {len(found)} cases of {kind} refused in turn: {again} changed nothing, and the "
         f"line was done again, {ended} ended it"
     )
 
@@ -189,11 +193,11 @@ def run_all(crates):
         if not run_refusing:
             return [NO_COMPILER]
         told = [run_one(test, run_refusing) for test in TESTS if test.crate in crates]
-        return told + [run_cases(program, run_refusing) for program in CASES if program in crates]
+        return told + [run_cases(kind, run_refusing) for kind in CASES if cases.KINDS[kind].program in crates]
 
 
 if __name__ == "__main__":
     try:
-        print("\n".join(run_all(sys.argv[1:] or [*(test.crate for test in TESTS), *CASES])))
+        print("\n".join(run_all(sys.argv[1:] or [*(test.crate for test in TESTS), *crates_of_cases()])))
     except Failed as why:
         sys.exit(f"test: {why}")

@@ -103,7 +103,7 @@ def run_server(parts):
 
 
 def run_without_memory(parts, crates):
-    if any(it in crates for it in (*(test.crate for test in memory_tests.TESTS), *memory_tests.CASES)):
+    if any(it in crates for it in (*(test.crate for test in memory_tests.TESTS), *memory_tests.crates_of_cases())):
         parts.run("tests with each allocation refused", part_of(lambda: memory_tests.run_all(crates)))
 
 
@@ -206,7 +206,7 @@ def of_crates(names, is_program_changed=False, are_cases_changed=False):
     programs = [it for it in limit_tests.TESTS if it in changed or (it == PROGRAM and is_program_changed)]
     if not parts.has_failed and programs:
         run_at_limits(parts, programs)
-    if not parts.has_failed and "site_runs" in changed:
+    if not parts.has_failed and "test_program" in changed:
         run_sites(parts)
     if not parts.has_failed and (is_program_changed or PROGRAM in changed):
         run_server(parts)

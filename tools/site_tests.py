@@ -1,4 +1,4 @@
-"""Runs site_runs, whose sites have random workloads: what it prints of a few sites, in one thread and as threads, of wrong words,
+"""Runs test_program on random workloads of sites: what it prints of a few sites, in one thread and as threads, of wrong words,
 and where one of its allocations is refused."""
 import sys
 import tempfile
@@ -6,13 +6,16 @@ import tempfile
 from crates import folder
 from program_tests import NO_COMPILER, Failed, check, expect, refusing
 
-PROGRAM = f"{folder('site_runs')}/out/site_runs"
+PROGRAM = f"{folder('test_program')}/out/test_program"
 JOURNALS = ["journals", "3", "40"]
 AUDIT = ["audit", "3", "40"]
 WORLD = ["world", "3", "40"]
 EVENTS = b"120 events\n"
 THREADS = ["threads", "3", "3", "20"]
-USAGE = b"usage: site_runs journals|audit|world SITES STEPS, or site_runs threads RUNS SITES ASKS\n"
+USAGE = (
+    b"usage: test_program frames | session [--greeting=TEXT] [--tries=N] [--take=FRAME] PIECE USER SECRET QUEUE.. | "
+    b"journal|desk SITE LIMIT QUEUE.. | journals|audit|world SITES STEPS | threads RUNS SITES ASKS\n"
+)
 
 
 def wrong_words():
@@ -33,7 +36,7 @@ def refused_allocations(room):
     for number in range(1, allocations + 1):
         ran, _ = run_refusing(number, PROGRAM, WORLD)
         expect(ran.returncode == 1, f"the status is not 1 where allocation {number} is refused", ran)
-        expect(ran.stderr == b"site_runs: out of memory\n", f"standard error has another text where allocation {number} is refused", ran)
+        expect(ran.stderr == b"test_program: out of memory\n", f"standard error has another text where allocation {number} is refused", ran)
         expect(not ran.stdout, f"it wrote something where allocation {number} is refused", ran)
     return f"each of the {allocations} allocations of three sites, their audit and its world refused in turn"
 

@@ -5,7 +5,7 @@ workload has, with its preparation, if it has no input.
 
 The workloads of frames are run by `bench` (docs/frames.md has their bytes): frames of live dots, each of a member of its own with a
 penalty, of dead dots, and of totals. Those of commands and of frames at sites are scripts of `queue_sites` (docs/script.md), and some
-are sessions of `session_cases`; their checksum is the number of bytes written. Two have sites of `site_runs`: the audit of their
+are sessions of `test_program`; their checksum is the number of bytes written. Two have sites of `test_program`: the audit of their
 journals, and the world in which its events happen; their checksum is the number of events.
 """
 import sys
@@ -241,15 +241,15 @@ def lines_of_statuses(often, count):
 
 def statuses(times, count):
     """A session of a site of `count` members asks for the status `times` times."""
-    command = [f"{folder('session_cases')}/out/session_cases", "1024", "", "", "sales"]
+    command = [f"{folder('test_program')}/out/test_program", "session", "1024", "", "", "sales"]
     start = b"".join(b"Action: QueueAdd\r\nQueue: sales\r\nInterface: %b\r\n\r\n" % interface(it) for it in range(count))
     asked = times * b"Action: QueueStatus\r\n\r\n"
     return Workload(times, Run(command, start + asked), Run(command, start), len)
 
 
 def of_sites(word, part, sites, steps):
-    """A workload of `site_runs`: a word of `sites` sites that do `steps` steps each, less another word that does a part of it."""
-    program = f"{folder('site_runs')}/out/site_runs"
+    """A workload of `test_program`: a word of `sites` sites that do `steps` steps each, less another word that does a part of it."""
+    program = f"{folder('test_program')}/out/test_program"
     runs = (Run([program, it, str(sites), str(steps)], b"") for it in (word, part))
     return Workload(1, *runs, lambda answer: answer.split()[0].decode())
 

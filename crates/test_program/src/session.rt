@@ -1,5 +1,5 @@
-//! Serves one session of a new site from standard input, for tests by files:
-//! `session_cases [--greeting=TEXT] [--tries=N] [--take=FRAME] PIECE USER SECRET QUEUE..`.
+//! Serves one session of a new site from standard input: `session [--greeting=TEXT] [--tries=N] [--take=FRAME] PIECE USER SECRET
+//! QUEUE..`.
 //!
 //! Standard input holds the client's bytes. The program reads it whole and gives it to the session in pieces of at most PIECE
 //! bytes.
@@ -22,27 +22,20 @@
 //! | 15 | `Turns`: 1,000,000 reads gave no end |
 //! | 16 | `Memory`: out of memory |
 //!
-//! With status 1 no session was served: reading standard input failed, memory ran out or a text could not be printed. With status 2
-//! the command line was wrong; standard error has a line. A case file without a command line gets `1024`, two empty words and
-//! `sales`.
-#![tactic(auto)]
-
+//! With status 1 no session was served: reading standard input failed, or memory ran out. A case file without a command line gets
+//! `1024`, two empty words and `sales`.
 ghost use Rattle.std.specs.Prelude.{◌<◌};
 
+use crate::queues::queue_list;
 use ami_session::Session;
 use ami_text::{MemorySource, StdSink};
 use delta_codec::decode;
-use dots::{QueueName, SiteId, Text80};
-use replica::{QueueList, Replica};
+use dots::{SiteId, Text80};
+use replica::Replica;
 use serve::{NoWatch, ReplicaDesk, ServeFault, serve};
 use std::alloc::Global;
 use std::io;
 use std::io::Read;
-use std::process::ExitCode;
-use std::rt::Env;
-
-const USAGE: &str =
-    "usage: session_cases [--greeting=TEXT] [--tries=N] [--take=FRAME] PIECE USER SECRET QUEUE..";
 
 // The parts of the command line.
 #[derive(Clone, Copy)]
@@ -57,28 +50,19 @@ struct Told<'a> {
     ghost some_bytes: { 0 < piece },
 }
 
-fn main(rt: HostRuntime) -> ExitCode {
-    ExitCode::from(run(&rt).unwrap_or(1))
-}
-
-// Runs the program, and returns its exit status. `Err`: reading the words or standard input failed, or a text could not be printed.
-fn run<R: Env + AllocGlobal + Print + Eprint + Input>(rt: &R) -> io::Result<u8> {
-    let mut words = Vec::new(rt.alloc());
-    for word in std::env::args(rt)? {
-        words.push(word)?;
-    }
+// Serves a session by these words, and returns the exit status. `None` if they are wrong.
+pub(crate) fn run<R: AllocGlobal + Print + Input>(
+    rt: &R,
+    words: &[String],
+) -> io::Result<Option<u8>> {
+    let Some(told) = read_words(words) else {
+        return Ok(None);
+    };
     let mut stream = Vec::new(rt.alloc());
     rt.reader().read_to_end(&mut stream)?;
-    let served = match read_words(&words) {
-        Some(told) => serve_told(rt, &stream, told),
-        None => None,
-    };
-    match served {
-        Some(served) => Ok(status(served)),
-        None => {
-            eprintln!(rt; "{USAGE}")?;
-            Ok(2)
-        }
+    match serve_told(rt, &stream, told) {
+        Some(served) => Ok(Some(status(served))),
+        None => Ok(None),
     }
 }
 
@@ -93,11 +77,8 @@ fn optional<'a>(front: &str, words: &'a [String]) -> (Option<&'a str>, &'a [Stri
     }
 }
 
-// Parses the command line, whose first word is the program's own name.
+// Parses the words of the command line.
 fn read_words(words: &[String]) -> Option<Told<'_>> {
-    let [_, words @ ..] = words else {
-        return None;
-    };
     let (greeting, words) = optional("--greeting=", words);
     let (tries, words) = optional("--tries=", words);
     let (frame, words) = optional("--take=", words);
@@ -160,14 +141,6 @@ fn session(told: Told<'_>) -> Option<Session> {
 
 fn text(word: &str) -> Option<Text80> {
     Text80::new(word.as_bytes()).ok()
-}
-
-fn queue_list(alloc: Global, queues: &[String]) -> Option<QueueList> {
-    let mut names = Vec::new(alloc);
-    for queue in queues {
-        names.push(QueueName::new(queue.as_bytes()).ok()?).ok()?;
-    }
-    QueueList::new(alloc, &names).ok()
 }
 
 // Site 0 of these queues, after it has taken the given frame, if there is one.

@@ -1,13 +1,13 @@
 //! A site at work.
-ghost use Rattle.std.specs.Prelude.{◌≤◌};
+ghost use Rattle.std.specs.Prelude.{◌≤◌, ◌<◌, ◌^◌, length};
 ghost use Rattle.site_journal.specs.declared.journaled.TheConstants.{MOST_STEPS};
 
-use crate::RunsFault;
-use crate::asks::{queue_list, some_ask};
-use crate::numbers::Numbers;
+use crate::runs::asks::{queue_list, some_ask};
+use crate::runs::numbers::Numbers;
+use crate::runs::runs_fault::RunsFault;
 use dots::{Bytes, SiteId};
 use replica::Replica;
-use site_journal::{Journaled, Receipt, Step, StepDeed, settle};
+use site_journal::{DeskFault, Journaled, Receipt, Step, StepDeed, settle};
 use std::alloc::Global;
 
 // The passes by which the steps of a site are done.
@@ -29,12 +29,25 @@ pub(crate) struct Site {
     taken: Vec<Receipt>,
 }
 
-fn receipt(position: u64, step: Step) -> Receipt {
-    Receipt {
+// Appends the receipt of a step at this position.
+fn push_receipt(receipts: &mut Vec<Receipt>, position: u64, step: Step) -> Result<(), RunsFault> {
+    receipts.push(Receipt {
         pass: step.pass,
         position,
         deed: step.deed,
-    }
+    })?;
+    Ok(())
+}
+
+// Appends the frame that a step made, if it made one.
+fn push_frame(frames: &mut Vec<Bytes>, deed: &StepDeed) -> Result<(), RunsFault> {
+    let frame = match deed {
+        StepDeed::Cut(Some(bytes)) => bytes.copy()?,
+        StepDeed::Whole(bytes) => bytes.copy()?,
+        _ => return Ok(()),
+    };
+    frames.push(frame)?;
+    Ok(())
 }
 
 // One of the latest frames, if there is one.
@@ -45,6 +58,19 @@ fn some_frame<'a>(numbers: &mut Numbers, frames: &'a [Bytes]) -> Option<&'a Byte
     let latest = frames.len().min(LATEST);
     let back = numbers.below(latest as u64) as usize;
     frames.get(frames.len() - 1 - back)
+}
+
+// The journal, if these receipts of its passes settle it.
+pub(crate) fn settled_by(journal: Journaled, lists: &[Vec<Receipt>]) -> Result<Journaled, RunsFault>
+    requires { length lists.now < 2 ^ 32 }
+{
+    match settle(&journal, lists) {
+        Ok(()) => Ok(journal),
+        Err(fault) => {
+            drop(journal);
+            Err(RunsFault::Settle(fault))
+        }
+    }
 }
 
 impl Site {
@@ -62,7 +88,10 @@ impl Site {
                 sent: Vec::new(alloc),
                 taken: Vec::new(alloc),
             }),
-            Err(_) => Err(RunsFault::Memory),
+            Err((_, replica)) => {
+                drop(replica);
+                Err(RunsFault::Memory)
+            }
         }
     }
 
@@ -87,40 +116,47 @@ impl Site {
     fn ask(&mut self, alloc: Global, numbers: &mut Numbers) -> Result<(), RunsFault> {
         let asked = some_ask(alloc, numbers)?;
         let position = self.journal.len();
-        let step = self.journal.call(ASKS, &asked)?;
-        self.asked.push(receipt(position, step))?;
-        Ok(())
+        let step = self.journal.call(ASKS, &asked);
+        drop(asked);
+        push_receipt(&mut self.asked, position, step?)
     }
 
     fn cut(&mut self, frames: &mut Vec<Bytes>) -> Result<(), RunsFault> {
         let position = self.journal.len();
-        let step = self.journal.cut(FRAMES)?;
-        if let StepDeed::Cut(Some(bytes)) = &step.deed {
-            frames.push(bytes.copy()?)?;
-        }
-        self.sent.push(receipt(position, step))?;
-        Ok(())
+        let step = self.journal.cut(FRAMES);
+        self.send(frames, position, step)
     }
 
     fn whole(&mut self, frames: &mut Vec<Bytes>) -> Result<(), RunsFault> {
         let position = self.journal.len();
-        let step = self.journal.whole(FRAMES)?;
-        if let StepDeed::Whole(bytes) = &step.deed {
-            frames.push(bytes.copy()?)?;
+        let step = self.journal.whole(FRAMES);
+        self.send(frames, position, step)
+    }
+
+    // Keeps the receipt of a step that may have made a frame, and the frame.
+    fn send(
+        &mut self,
+        frames: &mut Vec<Bytes>,
+        position: u64,
+        step: Result<Step, DeskFault>,
+    ) -> Result<(), RunsFault> {
+        let step = step?;
+        if let Err(fault) = push_frame(frames, &step.deed) {
+            drop(step);
+            return Err(fault);
         }
-        self.sent.push(receipt(position, step))?;
-        Ok(())
+        push_receipt(&mut self.sent, position, step)
     }
 
     fn take(&mut self, frame: &Bytes) -> Result<(), RunsFault> {
         let bytes = frame.copy()?.into_vec();
         let position = self.journal.len();
         match self.journal.take(TAKES, bytes) {
-            Ok(step) => {
-                self.taken.push(receipt(position, step))?;
-                Ok(())
+            Ok(step) => push_receipt(&mut self.taken, position, step),
+            Err((fault, bytes)) => {
+                drop(bytes);
+                Err(fault.into())
             }
-            Err((fault, _)) => Err(fault.into()),
         }
     }
 
@@ -133,7 +169,8 @@ impl Site {
             taken,
         } = self;
         let lists = [asked, sent, taken];
-        settle(&journal, &lists)?;
-        Ok(journal)
+        let settled = settled_by(journal, &lists);
+        drop(lists);
+        settled
     }
 }

@@ -1,5 +1,5 @@
 //! Reads the held delta: the dots of a member, the dots seen below a dot, and totals that are raised.
-use crate::saying::say_fault;
+use crate::frames::saying::say_fault;
 use causal_context::ContextFault;
 use delta::Delta;
 use delta_codec::{Frame, decode};

@@ -7,37 +7,37 @@ use sites_world::WorldFault;
 use std::alloc::AllocFailed;
 use thiserror::Error;
 
-/// Why sites didn't run to their end, or what they did doesn't fit together.
-#[derive(Clone, Copy, Debug, PartialEq, Eq, Error)]
-pub enum RunsFault {
-    /// A value of the program's own is out of its range.
+// Why sites didn't run to their end, or what they did doesn't fit together.
+#[derive(Clone, Copy, Debug, Error)]
+pub(crate) enum RunsFault {
+    // A value of the program's own is out of its range.
     #[error("a value is out of its range")]
     OutOfRange,
-    /// A thread couldn't be started.
+    // A thread couldn't be started.
     #[error("no thread")]
     NoThread,
-    /// A step wasn't done.
+    // A step wasn't done.
     #[error("a step wasn't done: {0}")]
     Step(DeskFault),
-    /// The receipts of a site's steps don't settle its journal.
+    // The receipts of a site's steps don't settle its journal.
     #[error("a journal isn't settled: {0}")]
     Settle(SettleFault),
-    /// There is no list of events for the journals.
+    // There is no list of events for the journals.
     #[error("no audit: {0}")]
     Audit(AuditFault),
-    /// The list hasn't one event for each step.
+    // The list hasn't one event for each step.
     #[error("not one event for each step")]
     Events,
-    /// The site of this number reports otherwise in the world that the events were run in.
+    // The site of this number reports otherwise in the world that the events were run in.
     #[error("site {0} reports otherwise in the world")]
     World(u16),
-    /// The site of this number reports otherwise than the first, though each has taken all that the other knew.
+    // The site of this number reports otherwise than the first, though each has taken all that the other knew.
     #[error("site {0} reports otherwise than the first")]
     Sites(u16),
-    /// Standard output failed.
+    // Standard output failed.
     #[error("write failed")]
     Write,
-    /// An allocation was refused.
+    // An allocation was refused.
     #[error("out of memory")]
     Memory,
 }

@@ -1,7 +1,7 @@
 //! How deeds ended, in words.
 ghost use Rattle.std.specs.Prelude.{◌<◌, ◌^◌, length};
 
-use crate::deed::End;
+use crate::site::deed::End;
 use site_journal::{Journaled, Receipt, StepDeed, settle};
 use status_report::Answer;
 use std::alloc::Global;

@@ -1,6 +1,6 @@
 //! Reads lines and runs them.
-use crate::deed::{Deed, End, Place};
-use crate::saying::say_done;
+use crate::site::deed::{Deed, End, Place};
+use crate::site::saying::say_done;
 use dots::{Bytes, Interface, Label, Penalty, QueueName, Text80};
 use hex::FromHexError;
 use replica::Command;

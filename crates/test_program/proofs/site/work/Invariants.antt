@@ -1,4 +1,4 @@
-use Rattle.site_cases.proofs.work.Given as goal
+use Rattle.test_program.proofs.site.work.Given as goal
 
 abbrev pub ghosts-work_at_desk-L-Ledger : goal.ghosts-work_at_desk-L-Ledger
 ghosts-work_at_desk-L-Ledger g a = record { name = a.blank.name; parts = a.blank.parts }

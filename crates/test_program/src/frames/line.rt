@@ -1,7 +1,7 @@
 //! Reads lines and runs them.
-use crate::changing::{Change, say_changed, say_changed_by_itself};
-use crate::reading::{say_dots, say_raised, say_seen};
-use crate::saying::{say_front, say_stream};
+use crate::frames::changing::{Change, say_changed, say_changed_by_itself};
+use crate::frames::reading::{say_dots, say_raised, say_seen};
+use crate::frames::saying::{say_front, say_stream};
 use delta::Delta;
 use hex::FromHexError;
 use std::alloc::Global;

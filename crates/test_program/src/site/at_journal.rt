@@ -1,5 +1,5 @@
 //! A journal as a place where deeds are done.
-use crate::deed::{Deed, End, Place, refused};
+use crate::site::deed::{Deed, End, Place, refused};
 use dots::Memory;
 use replica::Replica;
 use site_journal::{DeskFault, Journaled, Receipt, Step};

@@ -1,6 +1,6 @@
 //! Changes the held delta by the delta of a frame.
-use crate::saying::say_fault;
-use crate::words::{say_delta, say_rows};
+use crate::frames::saying::say_fault;
+use crate::frames::words::{say_delta, say_rows};
 use delta::Delta;
 use delta_codec::decode;
 use dots::Dot;

@@ -1,7 +1,7 @@
 //! A desk as a place where deeds are done, by one pass.
 ghost use Rattle.std.specs.Prelude.{◌≡◌};
 
-use crate::deed::{Deed, End, Place, refused};
+use crate::site::deed::{Deed, End, Place, refused};
 use dots::Memory;
 use site_desk::{Pass, SiteDesk, SiteLedger};
 use site_journal::{DeskFault, Gate, Receipt};

@@ -1,6 +1,6 @@
 //! Random asks of the sites: changes of a few members in two queues, calls that are counted, and reports.
-use crate::RunsFault;
-use crate::numbers::Numbers;
+use crate::runs::numbers::Numbers;
+use crate::runs::runs_fault::RunsFault;
 use dots::{Bytes, Interface, Label, Pause, Penalty, QueueName, Text80};
 use replica::{Command, QueueList};
 use status_report::{Ask, StatusRequest};

@@ -1,5 +1,5 @@
-//! The program `frame_cases`, for tests: reads lines of frames as hexadecimal, and writes what each frame says, the frames and
-//! faults of streams, and the held delta after frames have changed it.
+//! Reads lines of frames as hexadecimal, and writes what each frame says, the frames and faults of streams, and the held delta after
+//! frames have changed it: `frames`.
 //!
 //! The held delta is empty at first and after the line `new`. Empty lines and `#` lines give nothing. Bytes give the frame that they
 //! begin with, and `behind it N` if N bytes follow, or `fault` and its name. Before bytes may stand
@@ -32,26 +32,32 @@
 //!
 //! row of queue 0: "SIP/1", penalty 0, paused no, reason "", name "Ann", state "", ring in use no
 //! ```
-#![tactic(auto)]
-
 mod changing;
 mod line;
 mod reading;
 mod saying;
 mod words;
 
-use crate::line::give_line;
+use crate::frames::line::give_line;
 use delta::Delta;
 use std::alloc::Global;
 use std::io::{self, BufWriter, ErrorKind, Write};
 
-fn main(rt: HostRuntime) -> io::Result<()> {
-    let mut out = BufWriter::new(rt.alloc(), io::writer(&rt))?;
+// Writes the output of each line of standard input. `None` if there are words.
+pub(crate) fn run<R: AllocGlobal + Print + Input>(
+    rt: &R,
+    words: &[String],
+) -> io::Result<Option<u8>> {
+    if !words.is_empty() {
+        return Ok(None);
+    }
+    let mut out = BufWriter::new(rt.alloc(), io::writer(rt))?;
     let mut held = Delta::empty(rt.alloc());
-    let given = give_lines(&rt, &mut out, &mut held);
+    let given = give_lines(rt, &mut out, &mut held);
     drop(held);
     given?;
-    out.flush()
+    out.flush()?;
+    Ok(Some(0))
 }
 
 // Writes the output of each line of standard input.

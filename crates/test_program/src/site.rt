@@ -1,4 +1,4 @@
-//! Runs lines of standard input at one site, for tests by files: `site_cases journal|desk SITE LIMIT QUEUE..`.
+//! Runs lines of standard input at one site: `journal|desk SITE LIMIT QUEUE..`.
 //!
 //! The site has the number SITE, 0 to 63, and the named queues, in that order, and is new. Its journal holds at most LIMIT steps, 1
 //! to 1,000,000. The lines run at the journal itself, or by one pass of a desk over it. Empty lines and `#` lines give nothing.
@@ -13,11 +13,6 @@
 //! and its bytes. Without a step it writes `refused` and the fault; after a refused allocation `memory`, and does the line again;
 //! `changed` if a refusal changed the journal or bytes did not come back. Other lines are `not understood`. At the end it writes
 //! `settled`, or why not, and the numbers of steps done and dropped.
-//!
-//! Exit status 1: reading standard input or printing failed, or an allocation outside of a line was refused. Exit status 2: the
-//! command line is wrong; standard error has a line; or an allocation for it was refused.
-#![tactic(auto)]
-
 ghost use Rattle.std.specs.Prelude.{◌≡◌, IfSome};
 ghost use Rattle.site_journal.specs.Journals.{IsOfSite};
 
@@ -27,28 +22,26 @@ mod deed;
 mod line;
 mod saying;
 
-use crate::at_desk::DeskPlace;
-use crate::at_journal::JournalPlace;
-use crate::deed::Place;
-use crate::line::give_line;
-use crate::saying::say_end;
-use dots::{QueueName, SiteId};
-use replica::{QueueList, Replica};
+use crate::queues::queue_list;
+use crate::site::at_desk::DeskPlace;
+use crate::site::at_journal::JournalPlace;
+use crate::site::deed::Place;
+use crate::site::line::give_line;
+use crate::site::saying::say_end;
+use dots::SiteId;
+use replica::Replica;
 use site_desk::{Pass, SiteDesk, SiteLedger, close};
 use site_journal::{Journaled, MOST_STEPS, Receipt};
 use std::alloc::Global;
 use std::io::{self, BufWriter, ErrorKind, Write};
 use std::marker::Brand;
-use std::process::ExitCode;
-use std::rt::Env;
+use std::slice;
 use std::sync::Wait;
 use std::sync::ledger::Blank;
 
-const USAGE: &str = "usage: site_cases journal|desk SITE LIMIT QUEUE..";
-
 // Where the lines are done.
 #[derive(Clone, Copy)]
-enum Where {
+pub(crate) enum Where {
     Journal,
     Desk,
 }
@@ -62,38 +55,21 @@ struct Told<'a> {
     queues: &'a [String],
 }
 
-fn main(rt: HostRuntime) -> ExitCode {
-    ExitCode::from(run(&rt).unwrap_or(1))
-}
-
-// Runs the program, and returns its exit status. `Err`: reading standard input or printing failed, or an allocation was refused.
-fn run<R: Env + AllocGlobal + Print + Eprint + Input + Wait>(rt: &R) -> io::Result<u8> {
-    let mut words = Vec::new(rt.alloc());
-    for word in std::env::args(rt)? {
-        words.push(word)?;
-    }
-    match read_words(&words) {
-        Some(told) => write_all(rt, &told),
-        None => say_usage(rt),
-    }
-}
-
-fn say_usage<R: Eprint>(rt: &R) -> io::Result<u8> {
-    eprintln!(rt; "{USAGE}")?;
-    Ok(2)
-}
-
-// Runs all lines by these words, writes their results, and returns the status.
-fn write_all<R: AllocGlobal + Print + Eprint + Input + Wait>(
+// Runs all lines at this place by these words, writes their results, and returns the exit status. `None` if the words are wrong.
+pub(crate) fn run<R: AllocGlobal + Print + Input + Wait>(
     rt: &R,
-    told: &Told<'_>,
-) -> io::Result<u8> {
+    at: Where,
+    words: &[String],
+) -> io::Result<Option<u8>> {
+    let Some(told) = read_words(at, words) else {
+        return Ok(None);
+    };
     let mut out = BufWriter::new(rt.alloc(), io::writer(rt))?;
-    if !work(rt, &mut out, told)? {
-        return say_usage(rt);
+    if !work(rt, &mut out, &told)? {
+        return Ok(None);
     }
     out.flush()?;
-    Ok(0)
+    Ok(Some(0))
 }
 
 // Runs all lines by these words. `false`: there is no site with these queues and this limit.
@@ -112,15 +88,10 @@ fn work<R: AllocGlobal + Input + Wait, W: Write>(
     Ok(true)
 }
 
-// Parses the command line, whose first word is the program's own name.
-fn read_words(words: &[String]) -> Option<Told<'_>> {
-    let [_, at, site, limit, queues @ ..] = words else {
+// Parses the words of the command line.
+fn read_words(at: Where, words: &[String]) -> Option<Told<'_>> {
+    let [site, limit, queues @ ..] = words else {
         return None;
-    };
-    let at = match at.as_str() {
-        "journal" => Where::Journal,
-        "desk" => Where::Desk,
-        _ => return None,
     };
     let site = SiteId::new(site.parse().ok()?)?;
     let limit = limit.parse().ok()?;
@@ -145,16 +116,11 @@ fn journal(alloc: Global, told: &Told<'_>) -> Option<Journaled>
     let list = queue_list(alloc, told.queues)?;
     match Journaled::new(alloc, Replica::new(alloc, told.site, list), limit) {
         Ok(journal) => Some(journal),
-        Err(_) => None,
+        Err((_, replica)) => {
+            drop(replica);
+            None
+        }
     }
-}
-
-fn queue_list(alloc: Global, queues: &[String]) -> Option<QueueList> {
-    let mut names = Vec::new(alloc);
-    for queue in queues {
-        names.push(QueueName::new(queue.as_bytes()).ok()?).ok()?;
-    }
-    QueueList::new(alloc, &names).ok()
 }
 
 // Does all lines at a journal.
@@ -264,8 +230,7 @@ fn say_settled<W: Write>(
     journal: &Journaled,
     receipts: Vec<Receipt>,
 ) -> io::Result<()> {
-    let lists = [receipts];
-    let said = say_end(out, journal, &lists);
-    drop(lists);
+    let said = say_end(out, journal, slice::from_ref(&receipts));
+    drop(receipts);
     said
 }

@@ -1,5 +1,5 @@
 //! Writes frames and faults, of single frames or of a stream.
-use crate::words::say_delta;
+use crate::frames::words::say_delta;
 use delta_codec::{DecodeFault, Frame, Splitter, decode, encode};
 use std::alloc::Global;
 use std::io::{self, ErrorKind, Write};
