@@ -19,7 +19,7 @@ import time
 
 import cases
 from crates import folder
-from program_tests import NO_COMPILER, Failed, check, compiled_refusal, first_difference
+from program_tests import NO_COMPILER, Failed, check, compiled_refusal, expect, first_difference, run
 
 BUILT = f"{folder('queue_sites')}/out/queue_sites"
 USER, SECRET = "admin", "s3"
@@ -281,6 +281,49 @@ def wrong_words():
     with open("/dev/full", "wb") as full:
         check(BUILT, changed(1, str(free_ports(1))), 1, told=b"queue_sites: write failed\n", out=full)
     return "its words and texts"
+
+
+def ports_that_are_taken():
+    """Where two of three ports are taken, the server names the first of them, also if its standard output fails. It prints nothing, and no longer
+    listens at the port before."""
+    port = free_ports(3)
+    words, told = ["serve", "3", str(port), USER, SECRET, "sales"], b"queue_sites: cannot listen on %d: Address already in use (os error 98)\n" % (port + 1)
+    with socket.socket() as one, socket.socket() as other:
+        for place, taken in enumerate((one, other), 1):
+            taken.bind(("127.0.0.1", port + place))
+            taken.listen()
+        ran = run(BUILT, words)
+        expect((ran.returncode, ran.stdout, ran.stderr) == (1, b"", told), f"the status is not 1, or something else is written than {told!r}", ran)
+        with open("/dev/full", "wb") as full:
+            check(BUILT, words, 1, told=told, out=full)
+    need(is_free(port), "the port before one that is taken isn't free")
+    return "two ports of three that are taken"
+
+
+def output_that_ends():
+    """A server whose standard output takes its first line and not its second ends."""
+    port = free_ports(2)
+    line = b"listening 127.0.0.1:%d\n" % port
+
+    def limit_files():
+        signal.signal(signal.SIGXFSZ, signal.SIG_IGN)
+        resource.setrlimit(resource.RLIMIT_FSIZE, (len(line), len(line)))
+
+    with tempfile.TemporaryFile() as out:
+        check(BUILT, ["serve", "2", str(port), USER, SECRET, "sales"], 1, told=b"queue_sites: write failed\n", out=out, before=limit_files)
+        out.seek(0)
+        need(out.read() == line, f"a server whose output takes {len(line)} bytes writes other bytes than {line!r}")
+    return "a standard output that takes one line of two"
+
+
+def two_clients():
+    """A client sees what another client of its site adds, which came after it."""
+    with Server(1) as server, server.logged_in() as first, server.logged_in() as second:
+        second.succeed("QueueAdd", Queue="sales", Interface="SIP/1")
+        second.leave()
+        need(b"Location: SIP/1\r\n" in first.ask("QueueStatus"), "a client doesn't see what another one has added")
+        first.leave()
+    return "two clients of a site at once"
 
 
 def secrets_of_files():
@@ -1093,7 +1136,8 @@ def refused_allocations(room):
 
 def run_all():
     """Runs all tests. Returns lines that report what was run."""
-    tests = [wrong_words, secrets_of_files, greets_as_it_is_told, listens_where_it_is_told, sessions_of_files, clients_at_once, members_of_their_own,
+    tests = [wrong_words, ports_that_are_taken, output_that_ends, two_clients, secrets_of_files, greets_as_it_is_told, listens_where_it_is_told,
+             sessions_of_files, clients_at_once, members_of_their_own,
              sites_that_are_full, fifth_client, places, clients_in_line, verbose_log, failed_logins, replies_before_the_end, clients_that_linger,
              hostile_streams, hostile_clients, no_connections, idle_clients, long_reports, clients_that_hold_on, four_silent_clients, deaf_standard_error, signals]
     with tempfile.TemporaryDirectory() as room:

@@ -48,7 +48,9 @@ def run_all():
         check(PROGRAM, JOURNALS, 0, printed=b"120 steps\n")
         check(PROGRAM, AUDIT, 0, printed=EVENTS)
         check(PROGRAM, THREADS, 0, printed=b"3 runs\n")
-        return ["its words and texts", "three runs of three sites as threads", refused_allocations(room)]
+        for sites in ("1", "8"):
+            check(PROGRAM, ["threads", "1", sites, "5"], 0, printed=b"1 runs\n")
+        return ["its words and texts", "three runs of three sites as threads, one of one site, and one of eight", refused_allocations(room)]
 
 
 if __name__ == "__main__":
