@@ -4,8 +4,8 @@ ghost use Rattle.std.specs.Prelude.{◌≡◌, None};
 use site_journal::{DeskFault, Port, Receipt};
 use stored_pass_desk::Upkeep;
 
-// A port of a site's desk. Before each call the journal's steps are dropped if they keep more than 64 MiB. A call that finds the journal full is
-// made again once its steps are dropped. If they can't be dropped, the cause of that is the call's fault.
+// A port of a site's desk. Before each call the journal's steps are dropped if they keep more than 64 MiB. A call that finds the journal
+// full is made again once its steps are dropped. If they can't be dropped, the cause of that is the call's fault.
 #[derive(Drop)]
 pub(crate) struct KeepingPort<'a, P, U> {
     port: P,

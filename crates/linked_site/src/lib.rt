@@ -1,8 +1,8 @@
 //! One site, which serves Manager clients at one listener and is linked to the sites of other processes over TCP at another.
 //!
-//! [`serve_linked_site`] runs the threads of such a site; [`serve_stored_linked_site`] those of one with a store. Some threads answer clients,
-//! one makes the site's frames, one for each peer dials it and sends them, and some accept the links of peers and let the site take their
-//! frames. The site ends when another site says that it can't go on, or when its store fails.
+//! [`serve_linked_site`] runs the threads of such a site; [`serve_stored_linked_site`] those of one with a store. Some threads answer
+//! clients, one makes the site's frames, one for each peer dials it and sends them, and some accept the links of peers and let the site
+//! take their frames. The site ends when another site shows that its number or its store isn't right, or when its store fails.
 #![tactic(auto)]
 
 mod keeping_port;

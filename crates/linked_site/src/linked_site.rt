@@ -1,4 +1,5 @@
 //! What the threads of a linked site share.
+use crate::{LinkSettings, LinkedSiteFault};
 use dots::Memory;
 use event_log::EventLog;
 use link_hello::{Card, queues_digest};
@@ -10,8 +11,6 @@ use site_peers::{EndReason, LinkLog, PeerLinks, Ring, end_links};
 use std::alloc::Global;
 use std::net::{Net, TcpListener, TcpStream};
 use std::sync::{Arc, Wait};
-
-use crate::{LinkSettings, LinkedSiteFault};
 
 // The bell of a linked site, and its clients, whose sessions end with it.
 #[derive(Drop)]

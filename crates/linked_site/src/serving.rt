@@ -80,16 +80,16 @@ fn run_site<
 
 /// Serves Manager clients of a site at one listener, and links it to the sites of other processes: it accepts their links at the other
 /// listener, and dials each peer. At most `places` clients are answered at once; further ones wait, in order. Each answer rings the site's
-/// bell, and the site then sends its changes to all peers that are connected; each peer gets a frame of all that the site knows when it
+/// bell, and the site then sends its changes to all peers that are connected. Each peer gets a frame of all that the site knows when it
 /// connects. The steps of the site's journal are dropped when there are 1,000, and when they keep more than 64 MiB.
 ///
-/// It returns when the site has ended: another site has refused it as `TakenNumber` or `OlderCopy`, or has sent a frame that the site refuses as
-/// `NotMine`; or it has taken as many connections of clients as `sessions` says, and answered them. The reason is logged in one line. Sessions
-/// that go on then are cut off. What happens to clients and links is added to `events`.
+/// It returns when the site has ended. `TakenNumber`, `OlderCopy`: another site has refused it so. `NotMine`, `Conflict`: another site
+/// has sent a frame that this site refuses so. `Asked`: it has taken as many connections of clients as `sessions` says, and answered them.
+/// The reason is logged in one line, and sessions that go on are cut off. What happens to clients and links is added to `events`.
 ///
-/// Errors, in order: 1 `NoAddress`, if the system doesn't say at which address links are accepted; 2 `NoThread`, if a thread can't start, and
-/// `Memory`: no client is answered, and no peer is dialed. (Sessions are Asterisk's Manager Interface; how sites are linked is this
-/// project's own.)
+/// Errors, in order: 1 `NoAddress`, if the system doesn't say at which address links are accepted; 2 `NoThread`, if a thread can't start;
+/// 3 `Memory`. No client is answered then, and no peer is dialed. (Sessions are Asterisk's Manager Interface; how sites are linked is
+/// this project's own.)
 pub fn serve_linked_site<
     R: Net<Listener = TcpListener, Stream = TcpStream>
         + Threads

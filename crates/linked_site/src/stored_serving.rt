@@ -1,5 +1,5 @@
 //! A linked site with a store.
-ghost use Rattle.std.specs.Prelude.{◌≡◌, ◌≤◌, [], IfOk, IfSome, Some, slice_get, vec_len};
+ghost use Rattle.std.specs.Prelude.{◌≡◌, ◌≤◌, [], IfOk, IfSome, None, Some, slice_get, vec_len};
 ghost use Rattle.replica.specs.Site.{IsSameSite};
 ghost use Rattle.stored_threads.specs.StoredEnds.{IsStoreOf};
 ghost use Rattle.linked_site.specs.LinkedJournals.{IsLinkedJournal};
@@ -20,7 +20,7 @@ use std::random::RandomSource;
 use std::sync::{Arc, Wait};
 use std::thread::Threads;
 use std::time::Clock;
-use stored_desk::StepStore;
+use stored_desk::{CommitFault, StepStore};
 use stored_threads::{StoredSiteOutput, StoredSiteTasks, run_stored_sites};
 
 // What the one site has ended with that was launched.
@@ -80,6 +80,8 @@ where
     ensures journal { IfOk result (λ end. IsLinkedJournal replica end.journal) }
     ensures stored { IfOk result (λ end. IfSome end.store (λ store.
         IsStoreOf D.holds D.keeps D.begun replica end.fault store)) }
+    ensures lost { IfOk result (λ end. end.store ≡ None
+        → end.fault ≡ Some CommitFault.Other) }
 {
     let mut sites = match Vec::with_capacity(alloc, 1) {
         Ok(sites) => sites,
@@ -103,15 +105,16 @@ where
     }
 }
 
-/// Serves a site with a store as `serve_linked_site` serves one without. `replica` is the site as its store has it, and `store` has no step
-/// since. No reply leaves before the step that it answers for is durable, and no frame before its cut is. What the site takes from peers is
-/// saved within 50 ms. Once the store has 10,000 rows or 64 MiB since its base, the site becomes its base. Clients are answered once a frame of
-/// each peer was taken, or after 4 seconds.
+/// Serves a site with a store as `serve_linked_site` serves one without. `replica` is the site as its store has it, and `store` has no
+/// step since. Clients are answered once a frame of each peer was taken, or after 4 seconds. No reply leaves before the step that it
+/// answers for is durable, and no frame before its cut is. What the site takes from peers is saved within 50 ms. Once the store has 10,000
+/// rows or 64 MiB since its base, the site becomes its base.
 ///
-/// It returns when the site has ended, for the same reasons, or as `StoreFailed`, since a commit has failed: then no further reply leaves.
-/// All steps are saved before it returns, unless a commit has failed.
+/// It returns when the site has ended: for one of the reasons of `serve_linked_site`, or as `StoreFailed`, since a commit has failed. Then
+/// no further reply leaves, and two lines are logged, with the cause and the reason. Unless a commit has failed, all steps are saved before
+/// it returns. Where the store doesn't come back the fault is `Other`.
 ///
-/// Errors as of `serve_linked_site`; the store is dropped.
+/// Errors are those of `serve_linked_site`, and the store is dropped.
 pub fn serve_stored_linked_site<
     R: Net<Listener = TcpListener, Stream = TcpStream>
         + Threads
@@ -144,6 +147,8 @@ where
     ensures journal { IfOk result (λ end. IsLinkedJournal replica end.journal) }
     ensures stored { IfOk result (λ end. IfSome end.store (λ store.
         IsStoreOf D.holds D.keeps D.begun replica end.fault store)) }
+    ensures lost { IfOk result (λ end. end.store ≡ None
+        → end.fault ≡ Some CommitFault.Other) }
 {
     let settings = ClientSettings {
         session: settings,

@@ -25,15 +25,12 @@ const LOOKS: u32 = 80;
 
 const LOOK_MILLIS: u64 = 50;
 
-// Waits until a frame of each peer was taken, for at most 4 seconds, or until the site ends. So a site whose store is an older copy mostly finds
-// that out before it makes an add again that it has forgotten.
+// Waits until a frame of each peer was taken, for at most 4 seconds, or until the site ends. So a site whose store is an older copy
+// mostly finds that out before it makes adds anew that its store lacks.
 fn await_peers<R: Wait + Clock>(rt: &R, site: &LinkedSite) {
     let pause = Duration::from_millis(LOOK_MILLIS);
     for _ in 0..LOOKS {
-        if site.links.taken_count(rt) >= site.links.peer_count() {
-            return;
-        }
-        if site.links.ending().wait_within(rt, pause) {
+        if !site.links.awaits_peers(rt) || site.links.ending().wait_within(rt, pause) {
             return;
         }
     }
@@ -77,6 +74,21 @@ fn hear_by<
     hear(rt, alloc, site, desk, port);
 }
 
+// Logs why a commit of a site's store has failed, and ends the site.
+fn end_failed<
+    D: StepStore,
+    L: StoredLedger,
+    R: Net<Listener = TcpListener, Stream = TcpStream> + Wait,
+>(rt: &R, alloc: Global, site: &LinkedSite, desk: &StoredDesk<D, L>) {
+    if let Some(fault) = desk.fault(rt) {
+        let clients = site.clients();
+        let number = clients.number().number();
+        let line = format!(in alloc; "queue_sites: site {number}: store failed: {fault}");
+        clients.events().add(rt, line);
+    }
+    site.end(rt, alloc, EndReason::StoreFailed);
+}
+
 // Saves every 50 ms what the site has taken, until the site ends. Where the store has failed, it ends the site.
 fn save_to_the_end<
     D: StepStore,
@@ -89,7 +101,7 @@ fn save_to_the_end<
             return;
         }
         if let Err(DeskFault::Unsaved) = save_all(rt, desk) {
-            site.end(rt, alloc, EndReason::StoreFailed);
+            end_failed(rt, alloc, site, desk);
             return;
         }
     }

@@ -1,5 +1,6 @@
 //! What the threads of a linked site do.
 ghost use Rattle.std.specs.Prelude.{◌≡◌, ◌+◌, ◌*◌, ◌≤◌, IfOk, vec_capacity, vec_len};
+ghost use Rattle.linked_site.specs.Tasks.{tasks_for};
 ghost use Rattle.linked_site.specs.declared.link_settings.TheConstants.{MOST_PEERS};
 
 use crate::MOST_PEERS;
@@ -47,6 +48,7 @@ pub(crate) fn tasks_of(
     saves: bool,
 ) -> Result<Vec<LinkedTask>, Memory>
     requires { peers ≤ MOST_PEERS }
+    ensures tasks { IfOk result (λ tasks. tasks.items ≡ tasks_for places peers saves) }
     ensures some { IfOk result (λ tasks. 1 ≤ vec_len tasks) }
     ensures few { IfOk result (λ tasks. vec_len tasks ≤ places + 2 * peers + 7) }
 {

@@ -26,10 +26,12 @@ use stored_pass_desk::Upkeep;
 const PAUSE_MILLIS: u64 = 20;
 
 // Answers one client after another over this desk, until the site takes no more. The last of these threads ends the site's bell.
-pub(crate) fn answer<
-    R: Net<Listener = TcpListener, Stream = TcpStream> + Wait + Clock,
-    D: Desk<R>,
->(rt: &R, alloc: Global, site: &LinkedSite, desk: &mut D)
+pub(crate) fn answer<R: Net<Listener = TcpListener, Stream = TcpStream> + Wait + Clock, D: Desk<R>>(
+    rt: &R,
+    alloc: Global,
+    site: &LinkedSite,
+    desk: &mut D,
+)
     ensures { HasAnsweredClients D.answers D.refuses desk.old desk.new }
 {
     if answer_clients(rt, alloc, site.clients(), desk) {
@@ -37,8 +39,8 @@ pub(crate) fn answer<
     }
 }
 
-// Waits after a fault of the thread that makes frames. Then the bell rings, so that what it had to make is made; but not where the site has used
-// up its frame numbers.
+// Waits after a fault of the thread that makes frames. Then the bell rings, so that what it had to make is made; but not where the site
+// has used up its frame numbers.
 fn recover<R: Wait + Clock>(rt: &R, site: &LinkedSite, fault: DeskFault) {
     thread::sleep(rt, Duration::from_millis(PAUSE_MILLIS));
     match fault {
@@ -130,10 +132,13 @@ pub(crate) fn hear<
 }
 
 // Answers the clients of a site by this pass.
-fn answer_by<
-    L: SiteLedger,
-    R: Net<Listener = TcpListener, Stream = TcpStream> + Wait + Clock,
->(rt: &R, alloc: Global, site: &LinkedSite, desk: &SiteDesk<L>, pass: Pass<L>) -> Pass<L>
+fn answer_by<L: SiteLedger, R: Net<Listener = TcpListener, Stream = TcpStream> + Wait + Clock>(
+    rt: &R,
+    alloc: Global,
+    site: &LinkedSite,
+    desk: &SiteDesk<L>,
+    pass: Pass<L>,
+) -> Pass<L>
     ensures { result.ordinal ≡ pass.ordinal }
 {
     let mut ringing = RingingDesk::new(PassDesk::new(desk, pass), site.bell());
@@ -142,10 +147,13 @@ fn answer_by<
 }
 
 // Makes the frames of a site by this pass.
-fn spread_by<
-    L: SiteLedger,
-    R: Net<Listener = TcpListener, Stream = TcpStream> + Wait + Clock,
->(rt: &R, alloc: Global, site: &LinkedSite, desk: &SiteDesk<L>, pass: &mut Pass<L>)
+fn spread_by<L: SiteLedger, R: Net<Listener = TcpListener, Stream = TcpStream> + Wait + Clock>(
+    rt: &R,
+    alloc: Global,
+    site: &LinkedSite,
+    desk: &SiteDesk<L>,
+    pass: &mut Pass<L>,
+)
     ensures { pass.new.ordinal ≡ pass.old.ordinal }
 {
     let port = DeskPort::new(desk, pass);

@@ -14,7 +14,8 @@ pub enum EndReason {
     /// Another site says of this site's number what this site has not made: the number was used before, or its store is an older copy.
     #[error("another site has frames under this site's number that this site has not made")]
     NotMine,
-    /// Another site has other values under the number of a change that this site knows: the number was used twice, as where a store was lost.
+    /// Another site has other values under the number of a change that this site knows: the number was used twice, as where a store was
+    /// lost.
     #[error("another site has other values under the number of a change of this site")]
     Conflict,
     /// A peer knows another store with this site's number.

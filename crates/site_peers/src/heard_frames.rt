@@ -84,8 +84,8 @@ fn lack_of(fault: Option<DeskFault>) -> Option<DeskFault> {
     }
 }
 
-// Lets the site take the frames of a link, until it ends or a frame is refused: returns that fault. A frame for which the site lacks room or
-// memory is dropped; the site is then behind, and goes on.
+// Lets the site take the frames of a link, until it ends or a frame is refused: returns that fault. A frame for which the site lacks room
+// or memory is dropped; the site is then behind, and goes on.
 fn take_each<R: Wait, P: Port<R>, S: Source + Drop, A: Acknowledge<R> + Drop, K: ReceiptSink>(
     rt: &R,
     port: &mut P,

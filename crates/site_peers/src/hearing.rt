@@ -219,9 +219,9 @@ fn hear_connection<
 /// Accepts one connection after another at a listener, and lets the site take the frames that come over each, by this port, until the
 /// site ends. Where the port lacks room or memory for a frame, the frame is dropped, and the peer is asked for a whole each 5 seconds until
 /// the site has caught up. Any other frame that the port refuses ends its link; `NotMine` and `Conflict` end the site, as does a peer that
-/// refuses it as `TakenNumber` or `OlderCopy`. A connection is closed over which nothing comes for 0.5 seconds, or no whole hello for 3. Lines
-/// are logged when a link is up and when it is down, when the site falls behind a peer and when it has caught up, and when a connection leads
-/// to no link for another cause than the last one from its address.
+/// refuses it as `TakenNumber` or `OlderCopy`. A connection is closed over which nothing comes for 0.5 seconds, or no whole hello for 3.
+/// Lines are logged when a link is up and when it is down, when the site falls behind a peer and when it has caught up, and when a connection
+/// leads to no link for another cause than the last one from its address.
 pub fn hear_peers<
     R: Net<Listener = TcpListener, Stream = TcpStream> + Wait + Clock + RandomSource,
     G: Ring<R> + Drop,
