@@ -255,9 +255,9 @@ where
 ///
 /// If a commit of a store fails, the sessions of its site end without a reply, a line in `events` says why, as
 /// `queue_sites: site 0: store failed: disk full`, and all sites end. The site's output then has the fault. All sites also end if a site
-/// refuses a frame since its store lacks changes of that site, as an older copy of a store does; a line says so, as
-/// `queue_sites: site 0: rolled back: a frame of site 1: not this site's own`. So without a number of `sessions` the call returns only if a
-/// site has failed.
+/// refuses a frame since the store of a site is older than what other sites know of that site; a line says so, as
+/// `queue_sites: site 0: ends: a frame of site 1: not this site's own`. So without a number of `sessions` the call returns only if a site has
+/// failed.
 ///
 /// Once all sites listen the log has a line for each, as of `serve_sites`. Errors, in order: those of `serve_sites`.
 pub fn serve_stored_sites<

@@ -103,11 +103,11 @@ fn send_by<D: StepStore, L: StoredLedger, R: Wait + Clock>(
     let _ = send_news(rt, alloc, site, desk, &mut port, links, true);
 }
 
-// Logs that a site's store lacks changes of that site which a peer knows.
-fn log_rollback<R: Wait>(rt: &R, alloc: Global, site: &Site, peer: SiteId, fault: TakeFault) {
+// Logs why a frame of a peer ends a site: the store of a site is older than what other sites know of that site.
+fn log_end<R: Wait>(rt: &R, alloc: Global, site: &Site, peer: SiteId, fault: TakeFault) {
     let (site_number, peer) = (site.number.number(), peer.number());
     let line = format!(in alloc;
-        "queue_sites: site {site_number}: rolled back: a frame of site {peer}: {fault}"
+        "queue_sites: site {site_number}: ends: a frame of site {peer}: {fault}"
     );
     site.clients.events().add(rt, line);
 }
@@ -129,7 +129,7 @@ fn take_by<D: StepStore, L: StoredLedger, R: Wait>(
     let mut link = PeerLink::new(alloc, site, peer, desk, link, Some(&shared.awaited));
     let mut port = StoredPort::new(desk, pass);
     if let Err(DeskFault::Take(fault)) = take_news(rt, desk, &mut port, &mut link) {
-        log_rollback(rt, alloc, site, peer, fault);
+        log_end(rt, alloc, site, peer, fault);
         shared.fail();
     }
     link.give_up(rt);
@@ -166,8 +166,19 @@ fn log_failure<R: Wait>(rt: &R, alloc: Global, site: &Site, fault: CommitFault) 
     site.clients.events().add(rt, line);
 }
 
-// Saves what a site does, again and again, until its other tasks have ended. If a commit of its store fails it logs that, once. The site
-// ends if a site of the server has failed.
+// Saves what a site has done so far. Returns why a step can't be saved, if one can't: a commit has failed, or (`Other`) it has another cause.
+fn failure<D: StepStore, L: StoredLedger, R: Wait>(
+    rt: &R,
+    desk: &StoredDesk<D, L>,
+) -> Option<CommitFault> {
+    match save_all(rt, desk) {
+        Err(DeskFault::Unsaved) => Some(desk.fault(rt).unwrap_or(CommitFault::Other)),
+        _ => desk.fault(rt),
+    }
+}
+
+// Saves what a site does, again and again, until its other tasks have ended. If a step can't be saved it logs why, once. The site ends if
+// a site of the server has failed.
 fn save_to_the_end<
     D: StepStore,
     L: StoredLedger,
@@ -176,8 +187,7 @@ fn save_to_the_end<
     let mut is_logged = false;
     for _ in rt.forever() {
         thread::sleep(rt, Duration::from_millis(SAVE_MILLIS));
-        let _ = save_all(rt, desk);
-        match desk.fault(rt) {
+        match failure(rt, desk) {
             Some(fault) if !is_logged => {
                 log_failure(rt, alloc, &shared.site, fault);
                 shared.fail();

@@ -4,7 +4,6 @@ use Rattle.replica.proofs.SameSites.{site_through, site_turned}
 use Rattle.replica.specs.Site.{IsSameSite, SiteState}
 use Rattle.site_journal.specs.declared.step.Step.{Step}
 use Rattle.stored_desk.proofs.Recording.{lead_from}
-use Rattle.stored_desk.specs.Recorded.{IsLegalHistory}
 use Rattle.stored_desk.specs.declared.step_store.CommitFault.{CommitFault}
 use Rattle.site_desk.specs.Passes.{PassState}
 use Rattle.stored_threads.specs.StoredEnds.{HasStoredEnd, IsStoreOf}

@@ -1,5 +1,4 @@
-use Rattle.std.specs.List.{All}
-use Rattle.std.proofs.Common.{rules, ◌≡◌, ◌∙◌, ◌+◌, Some, arith, length, slice_get, subst, vec_len}
+use Rattle.std.proofs.Common.{rules, ◌≡◌, ◌+◌, Some, arith, length, slice_get, subst, vec_len}
 use Rattle.launcher.specs.Places.{AtEach}
 use Rattle.stored_threads.specs.declared.stored_site_tasks.StoredSiteTasks.{StoredSiteTasks}
 use Rattle.server.specs.ServedStores.{HasItsStart}
