@@ -9,6 +9,8 @@ mod linked_sites;
 #[cfg(test)]
 mod queues;
 #[cfg(test)]
+mod served_sites;
+#[cfg(test)]
 mod streams;
 #[cfg(test)]
 mod times;
