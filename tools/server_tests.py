@@ -406,7 +406,7 @@ def sessions():
     for it in cases.all_cases():
         if it.kind != "session":
             continue
-        words = it.words()
+        words = it.words()[len(cases.KINDS[it.kind].first):]
         if any(word.startswith("--take=") for word in words):  # of a site that has taken a frame, which no server can be given
             continue
         greeting = words.pop(0).removeprefix("--greeting=") if words[0].startswith("--greeting=") else None
