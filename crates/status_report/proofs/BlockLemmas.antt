@@ -1,10 +1,73 @@
 -- The blocks of a report, written one after the other.
-use Rattle.std.proofs.Common.{◌≡◌, ℕ, zero, suc, ◌+◌, ◌<◌, ◌≤◌, Bool, true, false, cond, List, [], ◌∷◌, ◌++◌, length, get_or, drop, drop-cons, map as each, filter, slice_get, Option, Some, append_assoc, append-nil, length-append, refl, sym, ap, ◌∙◌, arith}
+use Rattle.std.proofs.Common.{◌≡◌, ℕ, zero, suc, ◌+◌, ◌<◌, ◌≤◌, Bool, true, false, cond, List, [], ◌∷◌, ◌++◌, length, codes, get_or, drop, drop-cons, map as each, filter, slice_get, Option, Some, append_assoc, append-nil, length-append, refl, sym, ap, ◌∙◌, arith}
 use Rattle.std.specs.List.{concat}
 use Rattle.std.proofs.lemmas.List.{drop_all}
 use Rattle.dots.specs.declared.call_totals.CallTotals.{CallTotals}
+use Rattle.ami_text.specs.WrittenLines.{field}
 use Rattle.status_report.specs.declared.request.StatusRequest.{StatusRequest}
-use Rattle.status_report.specs.Status.{Row, is_member_wanted, is_queue_wanted, member_block, member_blocks, queue_block, blocks, blocks_named, opening, closing, status_text}
+use Rattle.status_report.specs.Status.{Row, end, event_lines, is_member_wanted, is_queue_wanted, member_block, member_blocks, queue_block, blocks, blocks_named, opening, closing, status_text}
+
+-- ---- a member
+-- a field that is written in pieces, before the rest
+field_on : (name value rest : List ℕ) → name ++ (codes ": " ++ (value ++ (codes "\r\n" ++ rest))) ≡ field name value ++ rest
+field_on name value rest =
+    sym (append_assoc (name ++ codes ": " ++ value) (codes "\r\n") rest
+    ∙ append_assoc (name ++ codes ": ") value (codes "\r\n" ++ rest)
+    ∙ append_assoc name (codes ": ") (value ++ (codes "\r\n" ++ rest)))
+
+-- the lines behind the membership, and the pieces of which they are written
+module _ (penalty paused reason ring : List ℕ) where
+  abbrev last_lines : List ℕ
+  last_lines = field (codes "RingInUse") ring ++ end
+
+  abbrev later_lines : List ℕ
+  later_lines = field (codes "Penalty") penalty ++ (field (codes "Paused") paused ++ (field (codes "PausedReason") reason ++ last_lines))
+
+  abbrev last_pieces : List ℕ
+  last_pieces = reason ++ (codes "\r\n" ++ last_lines)
+
+  abbrev later_pieces : List ℕ
+  later_pieces = penalty ++ ((codes "\r\n" ++ (field (codes "Paused") paused ++ codes "PausedReason: ")) ++ last_pieces)
+
+  later_is : codes "Penalty: " ++ later_pieces ≡ later_lines
+  later_is =
+      field_on (codes "Penalty") penalty ((field (codes "Paused") paused ++ codes "PausedReason: ") ++ last_pieces)
+      ∙ ap (λ t. field (codes "Penalty") penalty ++ t)
+      (append_assoc (field (codes "Paused") paused) (codes "PausedReason: ") last_pieces
+      ∙ ap (λ t. field (codes "Paused") paused ++ t) (field_on (codes "PausedReason") reason last_lines))
+
+  -- the pieces of a member's block are its lines
+  pub member_lines : (action_id queue name interface state : List ℕ)
+      → (event_lines action_id (codes "QueueMember") ++ (field (codes "Queue") queue ++ codes "Name: "))
+      ++ (name
+      ++ (codes "\r\nLocation: "
+      ++ (interface
+      ++ (codes "\r\nStateInterface: "
+      ++ (state
+      ++ (codes "\r\nMembership: dynamic\r\nPenalty: "
+      ++ later_pieces))))))
+      ≡ event_lines action_id (codes "QueueMember")
+      ++ (field (codes "Queue") queue
+      ++ (field (codes "Name") name
+      ++ (field (codes "Location") interface
+      ++ (field (codes "StateInterface") state
+      ++ (field (codes "Membership") (codes "dynamic")
+      ++ later_lines)))))
+  member_lines action_id queue name interface state =
+      let behind = codes "Membership: dynamic\r\nPenalty: " ++ later_pieces in
+      let states = state ++ (codes "\r\n" ++ behind) in
+      let places = interface ++ (codes "\r\n" ++ (codes "StateInterface: " ++ states)) in
+      let names = name ++ (codes "\r\n" ++ (codes "Location: " ++ places)) in
+      append_assoc (event_lines action_id (codes "QueueMember")) (field (codes "Queue") queue ++ codes "Name: ") names
+      ∙ ap (λ t. event_lines action_id (codes "QueueMember") ++ t)
+      (append_assoc (field (codes "Queue") queue) (codes "Name: ") names
+      ∙ ap (λ t. field (codes "Queue") queue ++ t)
+      (field_on (codes "Name") name (codes "Location: " ++ places)
+      ∙ ap (λ t. field (codes "Name") name ++ t)
+      (field_on (codes "Location") interface (codes "StateInterface: " ++ states)
+      ∙ ap (λ t. field (codes "Location") interface ++ t)
+      (field_on (codes "StateInterface") state behind
+      ∙ ap (λ t. field (codes "StateInterface") state ++ (field (codes "Membership") (codes "dynamic") ++ t)) later_is))))
 
 -- ---- the members of a queue
 choose : (request : StatusRequest) (name : List ℕ) (row : Row) (rest : List Row) → Bool → List (List ℕ)

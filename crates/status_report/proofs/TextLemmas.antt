@@ -9,6 +9,15 @@ pub record Writes (before piece after : List ℕ) : Type 0 where
 pub wrote : (before piece after : List ℕ) → after ≡ before ++ piece → Writes before piece after
 wrote before piece after h = record { is = h }
 
+-- one that is the same as another
+pub wrote_same : (before piece after same : List ℕ) → piece ≡ same → after ≡ before ++ piece → Writes before same after
+wrote_same before piece after same e h = record { is = h ∙ ap (λ p. before ++ p) e }
+
+-- what follows where a call has succeeded
+pub when_ok : {A E P Q : Type 0} (r : Result A E) → (P → Q) → OnOk r P → OnOk r Q
+when_ok (Ok x) f h = f h
+when_ok (Err e) f h = h
+
 -- a field whose value is the same
 pub wrote_value : (before name value after same : List ℕ) → value ≡ same → after ≡ before ++ field name value → Writes before (field name same) after
 wrote_value before name value after same e h = record { is = h ∙ ap (λ v. before ++ field name v) e }

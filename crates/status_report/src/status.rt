@@ -1,20 +1,31 @@
-ghost use Rattle.std.specs.Prelude.{◌≡◌, ◌≤◌, ◌+◌, ◌++◌, length, map as each, slice_get, IfOk};
-ghost use Rattle.std.specs.Prelude.{OnOk};
+ghost use Rattle.std.specs.Prelude.{◌≡◌, ◌≤◌, ◌+◌, ◌++◌, ℕ, List, codes, decimal, length};
+ghost use Rattle.std.specs.Prelude.{if◌then◌else◌, map as each, slice_get, IfOk, OnOk};
 ghost use Rattle.std.specs.List.{concat};
-ghost use Rattle.ami_text.specs.WrittenLines.{action_id_line};
+ghost use Rattle.ami_text.specs.WrittenLines.{action_id_line, field};
 ghost use Rattle.operations.specs.Views.{row_view, listed_row_view};
 ghost use Rattle.replica.specs.Standing.{StandsFor};
 ghost use Rattle.replica.specs.Steps.{SiteKnowledge};
 ghost use Rattle.status_report.specs.Knowing.{status_in};
-ghost use Rattle.status_report.specs.Status.{blocks_named, closing, event_lines, is_member_wanted};
-ghost use Rattle.status_report.specs.Status.{is_queue_wanted, member_block, member_blocks, opening};
+ghost use Rattle.status_report.specs.Status.{blocks_named, closing, end, event_lines};
+ghost use Rattle.status_report.specs.Status.{is_member_wanted, is_queue_wanted, member_block};
+ghost use Rattle.status_report.specs.Status.{member_blocks, opening};
 ghost use Rattle.status_report.specs.Status.{queue_block, report_of, text_shown, status_text};
 
 use crate::{Queues, StatusRequest};
-use ami_text::{push_action_id_line, push_end, push_field, push_number};
+use ami_text::{push_action_id_line, push_decimal, push_end, push_field, push_number};
 use dots::{CallTotals, Interface, Memory, QueueName};
 use replica::{Replica, Row};
 use std::alloc::Global;
+
+// The room in bytes that the front of a queue's member blocks has at first; most have fewer bytes.
+const FRONT_ROOM: usize = 128;
+
+// Appends bytes. Fails only when out of memory, and then appends none.
+fn push(out: &mut Vec<u8>, bytes: &[u8]) -> Result<(), Memory>
+    ensures { OnOk result (out.new.items ≡ out.old.items ++ bytes.now) }
+{
+    out.extend_from_slice(bytes)
+}
 
 // The ActionID's line, where the request has one.
 fn push_action_id(out: &mut Vec<u8>, request: &StatusRequest) -> Result<(), Memory>
@@ -74,28 +85,71 @@ fn is_member_wanted(request: &StatusRequest, interface: &Interface, row: &Row<'_
     }
 }
 
-fn push_member(
-    out: &mut Vec<u8>,
+// What the block of each member of a queue begins with, up to the member's name. Fails only when out of memory.
+fn member_front(
+    alloc: Global,
     request: &StatusRequest,
     name: &QueueName,
+) -> Result<Vec<u8>, Memory>
+    ensures { IfOk result (λ front. front.items
+        ≡ event_lines request.now.action_id (codes "QueueMember")
+        ++ (field (codes "Queue") name.now ++ codes "Name: ")) }
+{
+    let mut front = Vec::with_capacity(alloc, FRONT_ROOM)?;
+    push_event(&mut front, request, b"QueueMember")?;
+    push_field(&mut front, "Queue", name.as_bytes())?;
+    push(&mut front, b"Name: ")?;
+    Ok(front)
+}
+
+// The end of the line before, the line that says whether a member is paused, and the name of the next.
+fn paused_line(paused: bool) -> &'static [u8]
+    ensures { result.now ≡ codes "\r\n"
+        ++ (field (codes "Paused") (decimal (if paused then 1 else 0)) ++ codes "PausedReason: ") }
+{
+    if paused {
+        b"\r\nPaused: 1\r\nPausedReason: "
+    } else {
+        b"\r\nPaused: 0\r\nPausedReason: "
+    }
+}
+
+// The end of the line before, the line that says whether a member is rung while its device is in use, and the block's end.
+fn ring_line(ring: bool) -> &'static [u8]
+    ensures { result.now
+        ≡ codes "\r\n" ++ (field (codes "RingInUse") (decimal (if ring then 1 else 0)) ++ end) }
+{
+    if ring {
+        b"\r\nRingInUse: 1\r\n\r\n"
+    } else {
+        b"\r\nRingInUse: 0\r\n\r\n"
+    }
+}
+
+// The block of a member, which begins with this front (`member_front`). The bytes between two values are written at once.
+fn push_member(
+    out: &mut Vec<u8>,
+    front: &[u8],
     interface: &Interface,
     row: &Row<'_>,
 ) -> Result<(), Memory>
-    ensures { OnOk result (out.new.items
-        ≡ out.old.items
-        ++ member_block request.now.action_id name.now (interface.now, row_view row.now)) }
+    ensures { OnOk result ((action_id name : List ℕ)
+        → front.now ≡ event_lines action_id (codes "QueueMember")
+        ++ (field (codes "Queue") name ++ codes "Name: ")
+        → out.new.items
+        ≡ out.old.items ++ member_block action_id name (interface.now, row_view row.now)) }
 {
-    push_event(out, request, b"QueueMember")?;
-    push_field(out, "Queue", name.as_bytes())?;
-    push_field(out, "Name", shown(row.name, interface))?;
-    push_field(out, "Location", interface.as_bytes())?;
-    push_field(out, "StateInterface", shown(row.state, interface))?;
-    push_field(out, "Membership", b"dynamic")?;
-    push_number(out, "Penalty", u64::from(row.penalty))?;
-    push_number(out, "Paused", u64::from(row.paused))?;
-    push_field(out, "PausedReason", row.reason)?;
-    push_number(out, "RingInUse", u64::from(row.ring))?;
-    push_end(out)
+    push(out, front)?;
+    push(out, shown(row.name, interface))?;
+    push(out, b"\r\nLocation: ")?;
+    push(out, interface.as_bytes())?;
+    push(out, b"\r\nStateInterface: ")?;
+    push(out, shown(row.state, interface))?;
+    push(out, b"\r\nMembership: dynamic\r\nPenalty: ")?;
+    push_decimal(out, u64::from(row.penalty))?;
+    push(out, paused_line(row.paused))?;
+    push(out, row.reason)?;
+    push(out, ring_line(row.ring))
 }
 
 // The blocks of the members of a queue that the request selects, and their number.
@@ -111,10 +165,14 @@ fn push_members(
         members ≡ length (member_blocks request.now name.now (each listed_row_view rows.now))) }
     ensures few { IfOk result (λ members. length out.old.items + members ≤ length out.new.items) }
 {
+    if rows.is_empty() {
+        return Ok(0);
+    }
+    let front = member_front(*out.allocator(), request, name)?;
     let mut members = 0;
     for (interface, row) in rows {
         if is_member_wanted(request, interface, row) {
-            push_member(out, request, name, interface, row)?;
+            push_member(out, &front, interface, row)?;
             members += 1;
         }
     }

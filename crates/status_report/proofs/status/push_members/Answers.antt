@@ -17,7 +17,7 @@ loop-interface-preserved c =
     elim c.if-is_member_wanted.branch [
       | then-is_member_wanted+in_ok-push_member w ↦
           let wanted = sym c.is_member_wanted.ensures ∙ w.if-is_member_wanted.true in
-          let written = ap (λ o. o.items) w.out-is ∙ w.in_ok-push_member.ensures in
+          let written = ap (λ o. o.items) w.out-is ∙ w.in_ok-push_member.ensures request.action_id name (w.deref.ensures.value ∙ c.in_ok-front.ensures) in
           record {
             text = shown_text request name row _ _ next c.loop-interface.out.items c.if-is_member_wanted.out.items wanted written ∙ c.loop-interface.invariant.text;
             count = ap (λ n. n + length (member_blocks request name (each listed_row_view (drop (c.loop-interface.interface-index + 1) c.args.rows.now)))) w.members-is ∙ shown_count request name row _ _ next c.loop-interface.members wanted ∙ c.loop-interface.invariant.count;
