@@ -1,4 +1,4 @@
-ghost use Rattle.std.specs.Prelude.{◌≡◌, ◌++◌, ◌∷◌, [], IfErr, IsErr, OnOk, true};
+ghost use Rattle.std.specs.Prelude.{◌≡◌, ◌++◌, ◌∷◌, [], IfErr, IsErr, OnErr, OnOk, true};
 
 use crate::MOST_ITEMS;
 use crate::log::{InOrder, Log, Sent};
@@ -67,7 +67,38 @@ impl LinkSender {
         }
     }
 
-    /// Whether a send has returned its bytes. Takes no memory.
+    /// Sends these bytes as the next item if the link has room for them, and never waits. Returns the bytes if the link is full, or is
+    /// down: the receiver is dropped, or 2^40 items were sent. A link that is down stays down.
+    pub fn offer<R: Wait>(&mut self, rt: &R, bytes: Vec<u8>) -> Result<(), Vec<u8>>
+        ensures sent { OnOk result
+            (self.new ≡ record self.old { sent = self.old.sent ++ bytes.items ∷ [] }) }
+        ensures back { IfErr result (λ back. back.items ≡ bytes.items) }
+        ensures unsent { OnErr result (self.new ≡ record self.old { down = self.new.down }) }
+        ensures stays { self.old.down ≡ true → IsErr result × (self.new.down ≡ true) }
+    {
+        if self.is_down || self.sent >= MOST_ITEMS {
+            self.is_down = true;
+            return Err(bytes);
+        }
+        let LinkSender {
+            end,
+            pass,
+            sent,
+            is_down,
+        } = self;
+        match end.try_send_as::<Sent, R>(rt, pass, Bytes::new(bytes)) {
+            Ok(()) => {
+                *sent += 1;
+                Ok(())
+            }
+            Err(refused) => {
+                *is_down = !refused.is_full();
+                Err(refused.into_inner().into_vec())
+            }
+        }
+    }
+
+    /// Whether a send has returned its bytes, or an offer for which the link was not full. Takes no memory.
     pub fn down(&self) -> bool
         ensures { result ≡ self.now.down }
     {

@@ -23,6 +23,9 @@ all_begun Given xs p q run = (xs, [], sym (append-nil xs), run)
 none_begun : {O : Type 0} (Given : O → List ℕ → O → Type 0) (xs : List (List ℕ)) (p : O) → OutletBegins Given xs p p
 none_begun Given xs p = ([], xs, refl, refl)
 
+begun_longer : {O : Type 0} (Given : O → List ℕ → O → Type 0) (xs ys : List (List ℕ)) (p q : O) → OutletBegins Given xs p q → OutletBegins Given (xs ++ ys) p q
+begun_longer Given xs ys p q begun = (begun.0, begun.1 ++ ys, ap (λ l. l ++ ys) begun.2 ∙ append_assoc begun.0 begun.1 ys, begun.3)
+
 -- ---- each outlet
 
 -- nothing was given
@@ -35,6 +38,10 @@ each_none_begun Given xs all = record { count = refl; each = λ k none low. none
 
 pub each_all_begun : {O : Type 0} (Given : O → List ℕ → O → Type 0) (xs : List (List ℕ)) (a b : List O) → EachLink (OutletRun Given xs) a b → EachLink (OutletBegins Given xs) a b
 each_all_begun Given xs a b s = record { count = s.count; each = λ k none low. all_begun Given xs (slice_index_or a k none) (slice_index_or b k none) (s.each k none low) }
+
+-- a front of these items is one of these and more
+pub each_begun_longer : {O : Type 0} (Given : O → List ℕ → O → Type 0) (xs ys : List (List ℕ)) (a b : List O) → EachLink (OutletBegins Given xs) a b → EachLink (OutletBegins Given (xs ++ ys)) a b
+each_begun_longer Given xs ys a b s = record { count = s.count; each = λ k none low. begun_longer Given xs ys (slice_index_or a k none) (slice_index_or b k none) (s.each k none low) }
 
 pub each_given_more : {O : Type 0} (Given : O → List ℕ → O → Type 0) (xs ys : List (List ℕ)) (a b c : List O) → EachLink (OutletRun Given xs) a b → EachLink (OutletRun Given ys) b c → EachLink (OutletRun Given (xs ++ ys)) a c
 each_given_more Given xs ys a b c s t = record {

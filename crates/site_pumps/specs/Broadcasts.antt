@@ -5,6 +5,9 @@ use Rattle.site_journal.specs.declared.desk_fault.DeskFault.{DeskFault}
 use Rattle.site_journal.specs.declared.receipt.Receipt.{Receipt}
 use Rattle.site_journal.specs.declared.step.StepDeed.{StepDeed}
 use Rattle.site_journal.specs.declared.step.StepDeed.TheVariants.{Asked, Took, Cut, Whole}
+use Rattle.site_journal.specs.Receipts.{IsOfCut, IsOfWhole}
+use Rattle.site_pumps.specs.declared.broadcasting.FrameKind.{FrameKind}
+use Rattle.site_pumps.specs.declared.broadcasting.FrameKind.TheVariants.{Changes, Everything}
 use Rattle.site_pumps.specs.Carried.{EachLink}
 use Rattle.site_pumps.specs.Outlets.{OutletBegins, OutletRun}
 
@@ -15,6 +18,11 @@ frame_in (Cut None) = []
 frame_in (Whole frame) = frame ∷ []
 frame_in (Asked ask answer) = []
 frame_in (Took frame) = []
+
+-- the receipt is of a cut, or of a frame of all, as the kind says
+abbrev pub IsOfKind : FrameKind → Receipt → Type 0
+IsOfKind Changes = IsOfCut
+IsOfKind Everything = IsOfWhole
 
 -- the frames of cuts and wholes, in the order of their receipts
 abbrev pub frames_in : List Receipt → List (List ℕ)

@@ -1,31 +1,19 @@
 //! A pump that sends each frame on every outlet, in order.
-ghost use Rattle.std.specs.Prelude.{◌≡◌, ◌⊎◌, ◌+◌, ◌∷◌, [], ℕ, IfErr, List, OnErr, OnOk};
+ghost use Rattle.std.specs.Prelude.{◌≡◌, ◌⊎◌, ◌+◌, [], ℕ, IfErr, IfOk, List, None, OnErr, OnOk};
 ghost use Rattle.std.specs.Prelude.{Some, true};
 ghost use Rattle.std.specs.Result.{result_err};
-ghost use Rattle.site_journal.specs.Receipts.{IsOfCut, IsOfWhole};
-ghost use Rattle.site_pumps.specs.Broadcasts.{HasBroadcast, frame_in};
+ghost use Rattle.site_journal.specs.Receipts.{IsOfWhole};
+ghost use Rattle.site_pumps.specs.Broadcasts.{HasBroadcast, IsOfKind, frame_in};
 ghost use Rattle.site_pumps.specs.Carried.{EachLink};
 ghost use Rattle.site_pumps.specs.Deeds.{AreCutsAndWhole, AreCutsFor};
 ghost use Rattle.site_pumps.specs.Outgoing.{AddsReceipt};
 ghost use Rattle.site_pumps.specs.Outlets.{OutletBegins, OutletRun};
 
+use crate::sending::send_item;
 use crate::{Outlet, ReceiptSink};
-use dots::{Bytes, Memory};
+use dots::Memory;
 use site_journal::{Bell, DeskFault, Port, Receipt, StepDeed};
 use std::sync::Wait;
-
-// Sends an item on each outlet.
-fn send_item<R, O: Outlet<R>>(rt: &R, outlets: &mut [O], item: &Bytes) -> Result<(), Memory>
-    ensures ok { OnOk result
-        (EachLink (OutletRun O.given (item.now ∷ [])) outlets.old outlets.new) }
-    ensures err { OnErr result
-        (EachLink (OutletBegins O.given (item.now ∷ [])) outlets.old outlets.new) }
-{
-    for i in 0..outlets.len() {
-        outlets[i].send(rt, item)?;
-    }
-    Ok(())
-}
 
 // Sends the frame of a cut or a whole on each outlet, if it made one.
 fn send_frame<R, O: Outlet<R>>(rt: &R, outlets: &mut [O], receipt: &Receipt) -> Result<(), Memory>
@@ -41,15 +29,42 @@ fn send_frame<R, O: Outlet<R>>(rt: &R, outlets: &mut [O], receipt: &Receipt) -> 
     }
 }
 
-// Cuts, sends the frame on each outlet, and hands the receipt to the sink.
-fn cut_once<R: Wait, P: Port<R>, O: Outlet<R>, K: ReceiptSink>(
+// What a frame is of.
+#[derive(Clone, Copy)]
+enum FrameKind {
+    // The changes since the last cut.
+    Changes,
+    // All that the site knows.
+    Everything,
+}
+
+// Lets the port make a frame of this kind.
+fn make_frame<R, P: Port<R>>(rt: &R, port: &mut P, kind: FrameKind) -> Result<Receipt, DeskFault>
+    ensures made { IfOk result (λ receipt. P.makes port.old receipt port.new) }
+    ensures refused { IfErr result (λ cause. P.refuses port.old cause port.new) }
+    ensures ordinal { P.ordinal port.new ≡ P.ordinal port.old }
+    ensures deed { IfOk result (λ receipt. IsOfKind kind receipt) }
+    ensures counted { IfOk result (λ receipt. P.share port.new ≡ P.share port.old + 1) }
+    ensures well { IfOk result (λ receipt. P.fault port.new ≡ None) }
+    ensures kept { IfErr result (λ cause. P.share port.new ≡ P.share port.old) }
+    ensures told { IfErr result (λ cause. P.fault port.new ≡ Some cause) }
+{
+    match kind {
+        FrameKind::Changes => port.cut(rt),
+        FrameKind::Everything => port.whole(rt),
+    }
+}
+
+// Lets the port make a frame of this kind, sends it on each outlet, and hands the receipt to the sink.
+fn make_and_send<R: Wait, P: Port<R>, O: Outlet<R>, K: ReceiptSink>(
     rt: &R,
     port: &mut P,
     outlets: &mut [O],
     sink: &mut K,
+    kind: FrameKind,
 ) -> Result<(), DeskFault>
     ensures step { (receipts : List _)
-        × AddsReceipt IsOfCut (P.fault port.new) [] receipts result
+        × AddsReceipt (IsOfKind kind) (P.fault port.new) [] receipts result
         × HasBroadcast P.makes P.refuses P.share O.given K.holds port.old port.new outlets.old
         outlets.new sink.old sink.new receipts (result_err result) }
     ensures fault { IfErr result (λ cause.
@@ -59,7 +74,7 @@ fn cut_once<R: Wait, P: Port<R>, O: Outlet<R>, K: ReceiptSink>(
     if sink.prepare().is_err() {
         return Err(DeskFault::Memory);
     }
-    let receipt = match port.cut(rt) {
+    let receipt = match make_frame(rt, port, kind) {
         Ok(receipt) => receipt,
         Err(fault) => return Err(fault),
     };
@@ -90,19 +105,7 @@ pub fn broadcast_whole<R: Wait, P: Port<R>, O: Outlet<R>, K: ReceiptSink>(
         (P.fault port.new ≡ Some cause) ⊎ (cause ≡ DeskFault.Memory)) }
     ensures ordinal { P.ordinal port.new ≡ P.ordinal port.old }
 {
-    if sink.prepare().is_err() {
-        return Err(DeskFault::Memory);
-    }
-    let receipt = match port.whole(rt) {
-        Ok(receipt) => receipt,
-        Err(fault) => return Err(fault),
-    };
-    let sent = send_frame(rt, outlets, &receipt);
-    sink.put(receipt);
-    match sent {
-        Ok(()) => Ok(()),
-        Err(_) => Err(DeskFault::Memory),
-    }
+    make_and_send(rt, port, outlets, sink, FrameKind::Everything)
 }
 
 /// Cuts at each ring of the bell, and sends the frame on every outlet, in order. Once the bell has ended it cuts once more, and then sends
@@ -134,11 +137,11 @@ pub fn broadcast<R: Wait, P: Port<R>, O: Outlet<R>, B: Bell<R>, K: ReceiptSink>(
         if !bell.wait(rt) {
             break;
         }
-        if let Err(fault) = cut_once(rt, port, outlets, sink) {
+        if let Err(fault) = make_and_send(rt, port, outlets, sink, FrameKind::Changes) {
             return Err(fault);
         }
     }
-    if let Err(fault) = cut_once(rt, port, outlets, sink) {
+    if let Err(fault) = make_and_send(rt, port, outlets, sink, FrameKind::Changes) {
         return Err(fault);
     }
     broadcast_whole(rt, port, outlets, sink)

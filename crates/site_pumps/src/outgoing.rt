@@ -2,17 +2,16 @@
 ghost use Rattle.std.specs.Prelude.{◌≡◌, ◌+◌, ◌∷◌, ◌++◌, [], ◌≤◌, vec_len, List, IfErr, IfOk};
 ghost use Rattle.std.specs.Prelude.{OnErr, OnOk, MatchOption, None, Some};
 ghost use Rattle.site_journal.specs.Receipts.{IsOfCut, IsOfWhole};
-ghost use Rattle.site_links.specs.Links.{Sending};
-ghost use Rattle.site_pumps.specs.Carried.{BeginsToCarry, Carries, EachLink};
+ghost use Rattle.site_pumps.specs.Carried.{EachLink};
 ghost use Rattle.site_pumps.specs.Deeds.{cut_frame, cut_frames, whole_frame, whole_frames};
 ghost use Rattle.site_pumps.specs.Outgoing.{AddsReceipt, IsFrontOf, IsUnderWay, WorksAt};
+ghost use Rattle.site_pumps.specs.Outlets.{OutletBegins, OutletRun};
 ghost use Rattle.site_pumps.specs.Plans.{deed_at, held_after, planned, sent_for};
 
-use crate::sending::{send_each, send_one};
-use crate::{Deed, Pumped};
+use crate::sending::{send_each, send_item};
+use crate::{Deed, Outlet, PumpedOut};
 use dots::{Bytes, Memory};
 use site_journal::{DeskFault, Port, Receipt, StepDeed};
-use site_links::LinkSender;
 use std::alloc::Global;
 use std::sync::Wait;
 
@@ -27,7 +26,7 @@ fn deed_of(plan: &[Deed], number: usize) -> Deed
 }
 
 // What is sent for a frame. The frames that were held before go with it, or stay held.
-fn burst(
+fn frames_to_send(
     alloc: Global,
     deed: Deed,
     frame: &Bytes,
@@ -66,16 +65,17 @@ fn frame_of(receipt: &Receipt) -> Option<&Bytes>
     }
 }
 
-// Sends a frame of all that the site knows on all links.
-fn send_whole<R: Wait>(rt: &R, links: &mut [LinkSender], receipt: &Receipt) -> Result<(), Memory>
+// Sends a frame of all that the site knows on all outlets.
+fn send_whole<R, O: Outlet<R>>(rt: &R, outlets: &mut [O], receipt: &Receipt) -> Result<(), Memory>
     requires { IsOfWhole receipt.now }
     ensures ok { OnOk result
-        (EachLink (Carries (whole_frame receipt.now.deed)) links.old links.new) }
+        (EachLink (OutletRun O.given (whole_frame receipt.now.deed)) outlets.old outlets.new) }
     ensures err { OnErr result
-        (EachLink (BeginsToCarry (whole_frame receipt.now.deed)) links.old links.new) }
+        (EachLink (OutletBegins O.given (whole_frame receipt.now.deed)) outlets.old
+        outlets.new) }
 {
     match &receipt.deed {
-        StepDeed::Whole(frame) => send_one(rt, links, frame),
+        StepDeed::Whole(frame) => send_item(rt, outlets, frame),
         _ => Ok(()),
     }
 }
@@ -102,25 +102,26 @@ impl Outgoing {
     }
 
     // Sends what the plan makes of a cut.
-    fn treat<R: Wait>(
+    fn send_cut<R: Wait, O: Outlet<R>>(
         &mut self,
         rt: &R,
         alloc: Global,
-        links: &mut [LinkSender],
+        outlets: &mut [O],
         plan: &[Deed],
         receipt: &Receipt,
     ) -> Result<(), DeskFault>
         requires cut { IsOfCut receipt.now }
         requires few { self.old.used ≤ vec_len self.old.receipts }
-        ensures ok { OnOk result ((start : List Sending)
-            → IsUnderWay plan.now self.old.receipts.items self.old.used self.old.held.items start
-            links.old
-            → IsUnderWay plan.now (self.old.receipts.items ++ receipt.now ∷ []) self.new.used
-            self.new.held.items start links.new) }
-        ensures err { OnErr result ((start : List Sending)
-            → IsUnderWay plan.now self.old.receipts.items self.old.used self.old.held.items start
-            links.old
-            → IsFrontOf plan.now (self.old.receipts.items ++ receipt.now ∷ []) start links.new) }
+        ensures ok { OnOk result ((start : List _)
+            → IsUnderWay O.given plan.now self.old.receipts.items self.old.used self.old.held.items
+            start outlets.old
+            → IsUnderWay O.given plan.now (self.old.receipts.items ++ receipt.now ∷ [])
+            self.new.used self.new.held.items start outlets.new) }
+        ensures err { OnErr result ((start : List _)
+            → IsUnderWay O.given plan.now self.old.receipts.items self.old.used self.old.held.items
+            start outlets.old
+            → IsFrontOf O.given plan.now (self.old.receipts.items ++ receipt.now ∷ []) start
+            outlets.new) }
         ensures memory { IfErr result (λ fault. fault ≡ DeskFault.Memory) }
         ensures receipts { self.new.receipts ≡ self.old.receipts }
         ensures few { self.new.used ≤ self.old.used + 1 }
@@ -129,41 +130,41 @@ impl Outgoing {
             return Ok(());
         };
         let deed = deed_of(plan, self.used);
-        let Ok(items) = burst(alloc, deed, frame, &mut self.held) else {
+        let Ok(items) = frames_to_send(alloc, deed, frame, &mut self.held) else {
             return Err(DeskFault::Memory);
         };
         self.used += 1;
-        match send_each(rt, links, items.as_slice()) {
+        match send_each(rt, outlets, items.as_slice()) {
             Ok(()) => Ok(()),
             Err(_) => Err(DeskFault::Memory),
         }
     }
 
     // Cuts once more, and sends the frame as the plan says.
-    pub fn cut<R: Wait, P: Port<R>>(
+    pub fn cut<R: Wait, P: Port<R>, O: Outlet<R>>(
         &mut self,
         rt: &R,
         alloc: Global,
         port: &mut P,
-        links: &mut [LinkSender],
+        outlets: &mut [O],
         plan: &[Deed],
     ) -> Result<(), DeskFault>
         requires few { self.old.used ≤ vec_len self.old.receipts }
-        ensures ok { OnOk result ((start : List Sending)
-            → IsUnderWay plan.now self.old.receipts.items self.old.used self.old.held.items start
-            links.old
-            → IsUnderWay plan.now self.new.receipts.items self.new.used self.new.held.items start
-            links.new) }
-        ensures err { OnErr result ((start : List Sending)
-            → IsUnderWay plan.now self.old.receipts.items self.old.used self.old.held.items start
-            links.old
-            → IsFrontOf plan.now self.new.receipts.items start links.new) }
+        ensures ok { OnOk result ((start : List _)
+            → IsUnderWay O.given plan.now self.old.receipts.items self.old.used self.old.held.items
+            start outlets.old
+            → IsUnderWay O.given plan.now self.new.receipts.items self.new.used self.new.held.items
+            start outlets.new) }
+        ensures err { OnErr result ((start : List _)
+            → IsUnderWay O.given plan.now self.old.receipts.items self.old.used self.old.held.items
+            start outlets.old
+            → IsFrontOf O.given plan.now self.new.receipts.items start outlets.new) }
         ensures stopped { IfErr result (λ cause. P.fault port.new ≡ Some cause
-            → (start : List Sending)
-            → IsUnderWay plan.now self.old.receipts.items self.old.used self.old.held.items start
-            links.old
-            → IsUnderWay plan.now self.new.receipts.items self.new.used self.new.held.items start
-            links.new) }
+            → (start : List _)
+            → IsUnderWay O.given plan.now self.old.receipts.items self.old.used self.old.held.items
+            start outlets.old
+            → IsUnderWay O.given plan.now self.new.receipts.items self.new.used self.new.held.items
+            start outlets.new) }
         ensures receipts { AddsReceipt IsOfCut (P.fault port.new) self.old.receipts.items
             self.new.receipts.items result }
         ensures well { OnOk result (P.fault port.new ≡ None) }
@@ -175,34 +176,34 @@ impl Outgoing {
             return Err(DeskFault::Memory);
         }
         let receipt = port.cut(rt)?;
-        let treated = self.treat(rt, alloc, links, plan, &receipt);
+        let sent = self.send_cut(rt, alloc, outlets, plan, &receipt);
         self.receipts.push_reserved(receipt);
-        treated
+        sent
     }
 
     // Sends the held frames, and then a frame of all that the site knows.
-    pub fn finish<R: Wait, P: Port<R>>(
+    pub fn finish<R: Wait, P: Port<R>, O: Outlet<R>>(
         &mut self,
         rt: &R,
         port: &mut P,
-        links: &mut [LinkSender],
+        outlets: &mut [O],
     ) -> Result<(), DeskFault>
         requires well { P.fault port.old ≡ None }
-        ensures ok { OnOk result ((start : List Sending) (plan : List _)
-            → IsUnderWay plan self.old.receipts.items self.old.used self.old.held.items start
-            links.old
-            → EachLink (Carries (planned plan (cut_frames self.new.receipts.items)
-            (whole_frames self.new.receipts.items))) start links.new) }
-        ensures err { OnErr result ((start : List Sending) (plan : List _)
-            → IsUnderWay plan self.old.receipts.items self.old.used self.old.held.items start
-            links.old
-            → IsFrontOf plan self.new.receipts.items start links.new) }
+        ensures ok { OnOk result ((start : List _) (plan : List _)
+            → IsUnderWay O.given plan self.old.receipts.items self.old.used self.old.held.items
+            start outlets.old
+            → EachLink (OutletRun O.given (planned plan (cut_frames self.new.receipts.items)
+            (whole_frames self.new.receipts.items))) start outlets.new) }
+        ensures err { OnErr result ((start : List _) (plan : List _)
+            → IsUnderWay O.given plan self.old.receipts.items self.old.used self.old.held.items
+            start outlets.old
+            → IsFrontOf O.given plan self.new.receipts.items start outlets.new) }
         ensures stopped { IfErr result (λ cause. P.fault port.new ≡ Some cause
-            → (start : List Sending) (plan : List _)
-            → IsUnderWay plan self.old.receipts.items self.old.used self.old.held.items start
-            links.old
-            → EachLink (Carries (planned plan (cut_frames self.new.receipts.items) [])) start
-            links.new) }
+            → (start : List _) (plan : List _)
+            → IsUnderWay O.given plan self.old.receipts.items self.old.used self.old.held.items
+            start outlets.old
+            → EachLink (OutletRun O.given (planned plan (cut_frames self.new.receipts.items) [])) start
+            outlets.new) }
         ensures receipts { AddsReceipt IsOfWhole (P.fault port.new) self.old.receipts.items
             self.new.receipts.items result }
         ensures port { WorksAt P.makes P.refuses P.fault P.ordinal P.share port.old port.new
@@ -211,9 +212,9 @@ impl Outgoing {
         if self.receipts.reserve(1).is_err() {
             return Err(DeskFault::Memory);
         }
-        send_each(rt, links, self.held.as_slice())?;
+        send_each(rt, outlets, self.held.as_slice())?;
         let receipt = port.whole(rt)?;
-        let sent = send_whole(rt, links, &receipt);
+        let sent = send_whole(rt, outlets, &receipt);
         self.receipts.push_reserved(receipt);
         match sent {
             Ok(()) => Ok(()),
@@ -222,22 +223,22 @@ impl Outgoing {
     }
 
     // The result of a pump that has sent everything.
-    pub fn done(self) -> Pumped
+    pub fn done(self) -> PumpedOut
         ensures { (result.receipts ≡ self.receipts) × (result.fault ≡ None) }
     {
         let Outgoing { receipts, .. } = self;
-        Pumped {
+        PumpedOut {
             receipts,
             fault: None,
         }
     }
 
     // The result of a pump that a fault has stopped.
-    pub fn stopped(self, fault: DeskFault) -> Pumped
+    pub fn stopped(self, fault: DeskFault) -> PumpedOut
         ensures { (result.receipts ≡ self.receipts) × (result.fault ≡ Some fault) }
     {
         let Outgoing { receipts, .. } = self;
-        Pumped {
+        PumpedOut {
             receipts,
             fault: Some(fault),
         }

@@ -1,6 +1,6 @@
-ghost use Rattle.std.specs.Prelude.{◌≡◌, OnErr, OnOk};
+ghost use Rattle.std.specs.Prelude.{◌≡◌, ◌∷◌, [], OnErr, OnOk};
+ghost use Rattle.site_pumps.specs.Carried.{Carries};
 
-use crate::sending::send_on;
 use dots::{Bytes, Memory};
 use site_links::LinkSender;
 use std::sync::Wait;
@@ -17,6 +17,19 @@ pub trait Outlet<R> {
     fn send(&mut self, rt: &R, item: &Bytes) -> Result<(), Memory>
         ensures given { OnOk result (given self.old item.now self.new) }
         ensures err { OnErr result (self.new ≡ self.old) };
+}
+
+// Sends a copy of an item on a link, unless it is down.
+fn send_on<R: Wait>(rt: &R, link: &mut LinkSender, item: &Bytes) -> Result<(), Memory>
+    ensures ok { OnOk result (Carries (item.now ∷ []) link.old link.new) }
+    ensures err { OnErr result (link.new ≡ link.old) }
+{
+    if link.down() {
+        return Ok(());
+    }
+    let copy = item.copy()?;
+    let _ = link.send(rt, copy.into_vec());
+    Ok(())
 }
 
 impl<R: Wait> Outlet<R> for LinkSender {

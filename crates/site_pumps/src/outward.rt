@@ -1,21 +1,21 @@
 ghost use Rattle.std.specs.Prelude.{◌≡◌, ◌⊎◌, ◌+◌, ⊤, [], ℕ, None, Some, true, MatchOption, IfErr, OnErr};
 ghost use Rattle.std.specs.Prelude.{OnOk, vec_len};
 ghost use Rattle.site_journal.specs.Ports.{PortRun, PortWork};
-ghost use Rattle.site_pumps.specs.Carried.{Carries, EachLink};
+ghost use Rattle.site_pumps.specs.Carried.{EachLink};
 ghost use Rattle.site_pumps.specs.Deeds.{AreCutsAndWhole, AreCutsFor, cut_frames, whole_frames};
 ghost use Rattle.site_pumps.specs.Outgoing.{IsFrontOf, IsStopped};
+ghost use Rattle.site_pumps.specs.Outlets.{OutletRun};
 ghost use Rattle.site_pumps.specs.Plans.{planned};
 
 use crate::outgoing::Outgoing;
-use crate::{Deed, LinkPlan};
+use crate::{Deed, LinkPlan, Outlet};
 use site_journal::{Bell, DeskFault, Port, Receipt};
-use site_links::LinkSender;
 use std::alloc::Global;
 use std::sync::Wait;
 
 /// The result of a pump that sends.
 #[derive(Drop)]
-pub struct Pumped {
+pub struct PumpedOut {
     /// The receipts of its cuts, and after them that of the whole, if it made one.
     pub receipts: Vec<Receipt>,
     /// The fault that stopped it, if one did.
@@ -23,26 +23,26 @@ pub struct Pumped {
 }
 
 // Cuts at each ring and once more, and sends the held frames, and then a frame of all that the site knows.
-fn drive<R: Wait, P: Port<R>, B: Bell<R>>(
+fn pump_until_end<R: Wait, P: Port<R>, O: Outlet<R>, B: Bell<R>>(
     rt: &R,
     alloc: Global,
     outgoing: &mut Outgoing,
     port: &mut P,
-    links: &mut [LinkSender],
+    outlets: &mut [O],
     bell: &mut B,
     plan: &[Deed],
 ) -> Result<(), DeskFault>
     requires new { (outgoing.old.receipts.items ≡ []) × (outgoing.old.held.items ≡ [])
         × (outgoing.old.used ≡ 0) × (vec_len outgoing.old.receipts ≡ 0) }
-    ensures sent { OnOk result (EachLink (Carries (planned plan.now
+    ensures sent { OnOk result (EachLink (OutletRun O.given (planned plan.now
         (cut_frames outgoing.new.receipts.items) (whole_frames outgoing.new.receipts.items)))
-        links.old links.new) }
+        outlets.old outlets.new) }
     ensures front { OnErr result
-        (IsFrontOf plan.now outgoing.new.receipts.items links.old links.new) }
+        (IsFrontOf O.given plan.now outgoing.new.receipts.items outlets.old outlets.new) }
     ensures stopped { IfErr result (λ cause. P.fault port.new ≡ Some cause
         → (rung : ℕ) × (B.rings bell.new ≡ B.rings bell.old + rung)
-        × IsStopped plan.now rung outgoing.new.receipts.items (B.ended bell.new) links.old
-        links.new) }
+        × IsStopped O.given plan.now rung outgoing.new.receipts.items (B.ended bell.new)
+        outlets.old outlets.new) }
     ensures receipts { OnOk result ((rung : ℕ) × (B.rings bell.new ≡ B.rings bell.old + rung)
         × AreCutsAndWhole (rung + 1) outgoing.new.receipts.items) }
     ensures cuts { (rung : ℕ) × (B.rings bell.new ≡ B.rings bell.old + rung)
@@ -60,35 +60,36 @@ fn drive<R: Wait, P: Port<R>, B: Bell<R>>(
         if !bell.wait(rt) {
             break;
         }
-        outgoing.cut(rt, alloc, port, links, plan)?;
+        outgoing.cut(rt, alloc, port, outlets, plan)?;
     }
-    outgoing.cut(rt, alloc, port, links, plan)?;
-    outgoing.finish(rt, port, links)
+    outgoing.cut(rt, alloc, port, outlets, plan)?;
+    outgoing.finish(rt, port, outlets)
 }
 
-/// Cuts at each ring of the bell, and sends each frame on all links alike, as the plan says. It uses the plan's deeds in turn, and after the
+/// Cuts at each ring of the bell, and sends each frame on all outlets alike, as the plan says. It uses the plan's deeds in turn, and after the
 /// last the first again; without deeds it sends each frame once. A cut without a frame uses no deed. Once the bell has ended it cuts once
-/// more, sends the frames that it holds, and then, whatever the plan, a frame of all that the site knows. A link that is down gets no more,
-/// and the others go on. It waits where the bell, the port or a link does.
+/// more, sends the frames that it holds, and then, whatever the plan, a frame of all that the site knows. An outlet that is down drops its
+/// frames, and the others go on. It waits where the bell, the port or an outlet does.
 ///
 /// A fault stops it: the port's own, or `Memory` where a receipt or a frame has no room (this project's own).
-pub fn pump_out<R: Wait, P: Port<R>, B: Bell<R>>(
+pub fn pump_out<R: Wait, P: Port<R>, O: Outlet<R>, B: Bell<R>>(
     rt: &R,
     alloc: Global,
     port: &mut P,
-    links: &mut [LinkSender],
+    outlets: &mut [O],
     bell: &mut B,
     plan: &LinkPlan,
-) -> Pumped
-    ensures sent { result.fault ≡ None → EachLink (Carries (planned plan.now
+) -> PumpedOut
+    ensures sent { result.fault ≡ None → EachLink (OutletRun O.given (planned plan.now
         (cut_frames result.receipts.items) (whole_frames result.receipts.items)))
-        links.old links.new }
-    ensures front { IsFrontOf plan.now result.receipts.items links.old links.new }
+        outlets.old outlets.new }
+    ensures front { IsFrontOf O.given plan.now result.receipts.items outlets.old outlets.new }
     // If the port has refused a cut, everything was sent that the plan says of the frames cut before. If it has refused the whole, the held
     // frames were sent too.
     ensures stopped { MatchOption result.fault ⊤ (λ cause. P.fault port.new ≡ Some cause
         → (rung : ℕ) × (B.rings bell.new ≡ B.rings bell.old + rung)
-        × IsStopped plan.now rung result.receipts.items (B.ended bell.new) links.old links.new) }
+        × IsStopped O.given plan.now rung result.receipts.items (B.ended bell.new)
+        outlets.old outlets.new) }
     ensures receipts { result.fault ≡ None → (rung : ℕ)
         × (B.rings bell.new ≡ B.rings bell.old + rung)
         × AreCutsAndWhole (rung + 1) result.receipts.items }
@@ -104,7 +105,7 @@ pub fn pump_out<R: Wait, P: Port<R>, B: Bell<R>>(
     ensures share { P.share port.new ≡ P.share port.old + vec_len result.receipts }
 {
     let mut outgoing = Outgoing::new(alloc);
-    match drive(rt, alloc, &mut outgoing, port, links, bell, plan.deeds()) {
+    match pump_until_end(rt, alloc, &mut outgoing, port, outlets, bell, plan.deeds()) {
         Ok(()) => outgoing.done(),
         Err(fault) => outgoing.stopped(fault),
     }

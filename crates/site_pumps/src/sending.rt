@@ -1,50 +1,41 @@
-//! Items that are sent on all links alike.
-ghost use Rattle.std.specs.Prelude.{◌≡◌, ◌∷◌, [], OnErr, OnOk};
-ghost use Rattle.site_pumps.specs.Carried.{BeginsToCarry, Carries, EachLink};
+//! Items that are sent on all outlets alike.
+ghost use Rattle.std.specs.Prelude.{◌∷◌, [], OnErr, OnOk};
+ghost use Rattle.site_pumps.specs.Carried.{EachLink};
+ghost use Rattle.site_pumps.specs.Outlets.{OutletBegins, OutletRun};
 
+use crate::Outlet;
 use dots::{Bytes, Memory};
-use site_links::LinkSender;
-use std::sync::Wait;
 
-// Sends a copy of an item on a link, unless it is down.
-pub(crate) fn send_on<R: Wait>(rt: &R, link: &mut LinkSender, item: &Bytes) -> Result<(), Memory>
-    ensures ok { OnOk result (Carries (item.now ∷ []) link.old link.new) }
-    ensures err { OnErr result (link.new ≡ link.old) }
-{
-    if link.down() {
-        return Ok(());
-    }
-    let copy = item.copy()?;
-    let _ = link.send(rt, copy.into_vec());
-    Ok(())
-}
-
-// Sends a copy of an item on each link that isn't down.
-pub(crate) fn send_one<R: Wait>(
+// Sends an item on each outlet.
+pub(crate) fn send_item<R, O: Outlet<R>>(
     rt: &R,
-    links: &mut [LinkSender],
+    outlets: &mut [O],
     item: &Bytes,
 ) -> Result<(), Memory>
-    ensures ok { OnOk result (EachLink (Carries (item.now ∷ [])) links.old links.new) }
-    ensures err { OnErr result (EachLink (BeginsToCarry (item.now ∷ [])) links.old links.new) }
+    ensures ok { OnOk result
+        (EachLink (OutletRun O.given (item.now ∷ [])) outlets.old outlets.new) }
+    ensures err { OnErr result
+        (EachLink (OutletBegins O.given (item.now ∷ [])) outlets.old outlets.new) }
 {
-    for i in 0..links.len() {
-        send_on(rt, &mut links[i], item)?;
+    for i in 0..outlets.len() {
+        outlets[i].send(rt, item)?;
     }
     Ok(())
 }
 
-// Sends all of these items in their order, each on all links.
-pub(crate) fn send_each<R: Wait>(
+// Sends all of these items in their order, each on every outlet.
+pub(crate) fn send_each<R, O: Outlet<R>>(
     rt: &R,
-    links: &mut [LinkSender],
+    outlets: &mut [O],
     items: &[Bytes],
 ) -> Result<(), Memory>
-    ensures ok { OnOk result (EachLink (Carries items.now) links.old links.new) }
-    ensures err { OnErr result (EachLink (BeginsToCarry items.now) links.old links.new) }
+    ensures ok { OnOk result
+        (EachLink (OutletRun O.given items.now) outlets.old outlets.new) }
+    ensures err { OnErr result
+        (EachLink (OutletBegins O.given items.now) outlets.old outlets.new) }
 {
     for item in items {
-        send_one(rt, links, item)?;
+        send_item(rt, outlets, item)?;
     }
     Ok(())
 }

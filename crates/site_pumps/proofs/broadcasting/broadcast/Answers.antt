@@ -39,27 +39,27 @@ pub returns-in-Err-clause-ordinal : goal.returns-in-Err-clause-ordinal
 returns-in-Err-clause-ordinal g c = c.in-Err.ensures.ordinal ∙ c.loop.invariant.5
 
 -- a fault at the cut after the last ring
-pub returns-in-Err-cut_once-clause-broadcast : goal.returns-in-Err-cut_once-clause-broadcast
-returns-in-Err-cut_once-clause-broadcast g c =
+pub returns-in-Err-make_and_send-clause-broadcast : goal.returns-in-Err-make_and_send-clause-broadcast
+returns-in-Err-make_and_send-clause-broadcast g c =
     let was = c.loop.invariant in
-    let step = c.in-Err-cut_once.ensures.step in
+    let step = c.in-Err-make_and_send.ensures.step in
     let same : g.B.Bell.rings c.match-next.bell ≡ g.B.Bell.rings c.loop.bell = elim c.match-next.branch [ in-None w ↦ ap g.B.Bell.rings w.bell-is | in-Some+then-not-wait w ↦ ap g.B.Bell.rings w.bell-is ∙ w.if-not-wait.ensures.rings ] in (
       was.0,
       was.1 ++ step.0,
       same ∙ was.2,
       cuts_perhaps was.0 was.0 was.1 _ (omega arith) (omega arith) (behind_perhaps IsOfCut was.1 step.0 step.1.perhaps) was.3,
       tt,
-      broadcast_more g.P.Port.makes g.P.Port.refuses g.P.Port.share g.O.Outlet.given g.K.ReceiptSink.holds _ _ _ _ _ _ _ _ _ was.1 step.0 (Some c.in-Err-cut_once.fault) was.4 step.2,
+      broadcast_more g.P.Port.makes g.P.Port.refuses g.P.Port.share g.O.Outlet.given g.K.ReceiptSink.holds _ _ _ _ _ _ _ _ _ was.1 step.0 (Some c.in-Err-make_and_send.fault) was.4 step.2,
     )
 
-pub returns-in-Err-cut_once-clause-ordinal : goal.returns-in-Err-cut_once-clause-ordinal
-returns-in-Err-cut_once-clause-ordinal g c = c.in-Err-cut_once.ensures.ordinal ∙ c.loop.invariant.5
+pub returns-in-Err-make_and_send-clause-ordinal : goal.returns-in-Err-make_and_send-clause-ordinal
+returns-in-Err-make_and_send-clause-ordinal g c = c.in-Err-make_and_send.ensures.ordinal ∙ c.loop.invariant.5
 
 -- the frame of all, or a fault at it
 pub returns-clause-broadcast : goal.returns-clause-broadcast
 returns-clause-broadcast g c =
     let was = c.loop.invariant in
-    let step = c.in_default-cut_once.ensures.step in
+    let step = c.in_default-make_and_send.ensures.step in
     let whole = c.broadcast_whole.ensures.step in
     let same : g.B.Bell.rings c.match-next.bell ≡ g.B.Bell.rings c.loop.bell = elim c.match-next.branch [ in-None w ↦ ap g.B.Bell.rings w.bell-is | in-Some+then-not-wait w ↦ ap g.B.Bell.rings w.bell-is ∙ w.if-not-wait.ensures.rings ] in
     let all = was.1 ++ step.0 in
@@ -75,4 +75,4 @@ returns-clause-broadcast g c =
     )
 
 pub returns-clause-ordinal : goal.returns-clause-ordinal
-returns-clause-ordinal g c = c.broadcast_whole.ensures.ordinal ∙ (c.in_default-cut_once.ensures.ordinal ∙ c.loop.invariant.5)
+returns-clause-ordinal g c = c.broadcast_whole.ensures.ordinal ∙ (c.in_default-make_and_send.ensures.ordinal ∙ c.loop.invariant.5)

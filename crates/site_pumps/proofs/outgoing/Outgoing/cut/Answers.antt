@@ -8,23 +8,23 @@ use Rattle.site_pumps.specs.Outgoing.{IsFrontOf, IsUnderWay}
 use Rattle.site_pumps.proofs.outgoing.Outgoing.cut.Goals as goal
 
 pub returns-then-is_err-clause-err : goal.returns-then-is_err-clause-err
-returns-then-is_err-clause-err g c = λ start w. subst (λ l. IsFrontOf c.args.plan.now l start c.args.links.now) (sym c.reserve.ensures.items) (stopped _ _ _ _ _ _ w)
+returns-then-is_err-clause-err g c = λ start w. subst (λ l. IsFrontOf g.O.Outlet.given c.args.plan.now l start c.args.outlets.now) (sym c.reserve.ensures.items) (stopped g.O.Outlet.given _ _ _ _ _ _ w)
 
 pub returns-in_err-receipt-clause-err : goal.returns-in_err-receipt-clause-err
-returns-in_err-receipt-clause-err g c = on_err c.from_residual.result (λ start w. subst (λ l. IsFrontOf c.args.plan.now l start c.args.links.now) (sym c.reserve.ensures.items) (stopped _ _ _ _ _ _ w))
+returns-in_err-receipt-clause-err g c = on_err c.from_residual.result (λ start w. subst (λ l. IsFrontOf g.O.Outlet.given c.args.plan.now l start c.args.outlets.now) (sym c.reserve.ensures.items) (stopped g.O.Outlet.given _ _ _ _ _ _ w))
 
 pub returns-then-is_err-clause-stopped : goal.returns-then-is_err-clause-stopped
-returns-then-is_err-clause-stopped g c = λ told start w. subst (λ l. IsUnderWay c.args.plan.now l c.args.self.now.used c.args.self.now.held.items start c.args.links.now) (sym c.reserve.ensures.items) w
+returns-then-is_err-clause-stopped g c = λ told start w. subst (λ l. IsUnderWay g.O.Outlet.given c.args.plan.now l c.args.self.now.used c.args.self.now.held.items start c.args.outlets.now) (sym c.reserve.ensures.items) w
 
 pub returns-in_err-receipt-clause-stopped : goal.returns-in_err-receipt-clause-stopped
 returns-in_err-receipt-clause-stopped g c = let p = err_from_is_err_and c.from_residual.result c.from_residual.ensures.1 in
-    rw (p.1, p.2) (λ told start w. subst (λ l. IsUnderWay c.args.plan.now l c.args.self.now.used c.args.self.now.held.items start c.args.links.now) (sym c.reserve.ensures.items) w)
+    rw (p.1, p.2) (λ told start w. subst (λ l. IsUnderWay g.O.Outlet.given c.args.plan.now l c.args.self.now.used c.args.self.now.held.items start c.args.outlets.now) (sym c.reserve.ensures.items) w)
 
 pub returns-clause-stopped : goal.returns-clause-stopped
-returns-clause-stopped g c = each_fault c.treat-treated.result _ (λ cause told. absurd (cc (told, c.in_ok-receipt.ensures.well)))
+returns-clause-stopped g c = each_fault c.send_cut-sent.result _ (λ cause told. absurd (cc (told, c.in_ok-receipt.ensures.well)))
 
 pub returns-clause-well : goal.returns-clause-well
-returns-clause-well g c = whatever c.treat-treated.result c.in_ok-receipt.ensures.well
+returns-clause-well g c = whatever c.send_cut-sent.result c.in_ok-receipt.ensures.well
 
 pub returns-then-is_err-clause-receipts : goal.returns-then-is_err-clause-receipts
 returns-then-is_err-clause-receipts g c = record { receipt = tt; perhaps = inl c.reserve.ensures.items; refused = λ told. c.reserve.ensures.items }
@@ -36,12 +36,12 @@ returns-in_err-receipt-clause-receipts g c = let p = err_from_is_err_and c.from_
 pub returns-clause-receipts : goal.returns-clause-receipts
 returns-clause-receipts g c =
     let receipt = c.in_ok-receipt.receipt in
-    let room = ap (λ (v : Vec Receipt Global). v.items) c.treat-treated.ensures.receipts ∙ c.reserve.ensures.items in
+    let room = ap (λ (v : Vec Receipt Global). v.items) c.send_cut-sent.ensures.receipts ∙ c.reserve.ensures.items in
     let more = c.push_reserved.ensures.items ∙ ap (λ l. l ++ receipt ∷ []) room in
     record {
-      receipt = whatever c.treat-treated.result (receipt, c.in_ok-receipt.ensures.deed, more);
-      perhaps = on_err c.treat-treated.result (inr (receipt, c.in_ok-receipt.ensures.deed, more));
-      refused = each_fault c.treat-treated.result _ (λ cause told. absurd (cc (told, c.in_ok-receipt.ensures.well)));
+      receipt = whatever c.send_cut-sent.result (receipt, c.in_ok-receipt.ensures.deed, more);
+      perhaps = on_err c.send_cut-sent.result (inr (receipt, c.in_ok-receipt.ensures.deed, more));
+      refused = each_fault c.send_cut-sent.result _ (λ cause told. absurd (cc (told, c.in_ok-receipt.ensures.well)));
     }
 
 pub returns-then-is_err-clause-port : goal.returns-then-is_err-clause-port
@@ -66,12 +66,12 @@ returns-in_err-receipt-clause-port g c = let p = err_from_is_err_and c.from_resi
 pub returns-clause-port : goal.returns-clause-port
 returns-clause-port g c =
     let receipt = c.in_ok-receipt.receipt in
-    let room = ap (λ (v : Vec Receipt Global). v.items) c.treat-treated.ensures.receipts ∙ c.reserve.ensures.items in
+    let room = ap (λ (v : Vec Receipt Global). v.items) c.send_cut-sent.ensures.receipts ∙ c.reserve.ensures.items in
     record {
-      run = whatever c.treat-treated.result (λ start run. run_more g.P.Port.makes start _ _ _ _ _ receipt c.push_reserved.ensures.items room run c.in_ok-receipt.ensures.made);
-      work = if_memory c.treat-treated.result _ c.treat-treated.ensures.memory (λ cause memory start run.
+      run = whatever c.send_cut-sent.result (λ start run. run_more g.P.Port.makes start _ _ _ _ _ receipt c.push_reserved.ensures.items room run c.in_ok-receipt.ensures.made);
+      work = if_memory c.send_cut-sent.result _ c.send_cut-sent.ensures.memory (λ cause memory start run.
           work_stopped g.P.Port.makes g.P.Port.refuses start _ _ _ memory (run_more g.P.Port.makes start _ _ _ _ _ receipt c.push_reserved.ensures.items room run c.in_ok-receipt.ensures.made));
-      fault = if_memory c.treat-treated.result _ c.treat-treated.ensures.memory (λ cause memory. inr memory);
+      fault = if_memory c.send_cut-sent.result _ c.send_cut-sent.ensures.memory (λ cause memory. inr memory);
       same = search rules;
       done = search rules;
     }

@@ -2,7 +2,7 @@ use Rattle.std.proofs.Common.{rules, ◌∷◌, [], refl}
 use Rattle.site_pumps.specs.Outlets.{OutletRun}
 use Rattle.site_pumps.proofs.GivenItems.{outlets_begun_at}
 use Rattle.site_pumps.proofs.Carrying.{at_first, at_last, on_err, one_more}
-use Rattle.site_pumps.proofs.broadcasting.send_item.Goals as goal
+use Rattle.site_pumps.proofs.sending.send_item.Goals as goal
 
 pub loop-i-init : goal.loop-i-init
 loop-i-init g c = at_first _ _

@@ -5,13 +5,13 @@ use Rattle.site_pumps.proofs.Carrying.{on_err}
 use Rattle.site_pumps.proofs.PortRuns.{both_faults, either_way, if_fault, run_none}
 use Rattle.site_pumps.proofs.Receipts.{cuts_long, cuts_more, cuts_perhaps, cuts_whole, whole_perhaps}
 use Rattle.site_pumps.proofs.UnderWay.{at_start_of}
-use Rattle.site_pumps.proofs.outward.drive.Goals as goal
-use Rattle.site_pumps.proofs.outward.drive.Goals.{in-None, in-Some+then-not-wait}
+use Rattle.site_pumps.proofs.outward.pump_until_end.Goals as goal
+use Rattle.site_pumps.proofs.outward.pump_until_end.Goals.{in-None, in-Some+then-not-wait}
 
 pub loop-init : goal.loop-init
 loop-init g c = let new = c.requires.new in record {
   cuts = (0, omega arith, ([], refl, ap (map (λ (r : Receipt). r.deed)) new.0));
-  under_way = at_start_of _ _ _ _ _ new.0 new.2 new.1;
+  under_way = at_start_of g.O.Outlet.given _ _ _ _ _ new.0 new.2 new.1;
   few = omega (arith, new.2);
   run = run_none g.P.Port.makes _ _ new.0;
   ordinal = refl;

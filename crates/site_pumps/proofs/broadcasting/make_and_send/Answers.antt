@@ -1,7 +1,7 @@
 use Rattle.std.proofs.Common.{◌∷◌, [], inl, inr, refl}
 use Rattle.site_journal.specs.declared.desk_fault.DeskFault.TheVariants.{Memory}
 use Rattle.site_pumps.proofs.GivenItems.{broadcast_done, broadcast_half, broadcast_refused}
-use Rattle.site_pumps.proofs.broadcasting.cut_once.Goals as goal
+use Rattle.site_pumps.proofs.broadcasting.make_and_send.Goals as goal
 
 -- the sink has no room
 pub returns-then-is_err-clause-step : goal.returns-then-is_err-clause-step
