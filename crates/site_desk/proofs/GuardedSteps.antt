@@ -131,6 +131,6 @@ module _ (site : ℕ) (names : List (List ℕ)) (limit : ℕ) (base : SiteState)
   }
 
   -- the steps were dropped, or nothing was changed
-  pub guarded_checkpointed : {F : Type 0} (new : JournalState) (result : Result (Unit {0}) F) → OnOk result (HasDropped old new) → OnErr result (new ≡ old) → IsGuarded site names limit base total new
-  guarded_checkpointed new (Ok u) dropped unchanged = guarded_dropped new dropped
+  pub guarded_checkpointed : {T F : Type 0} (new : JournalState) (result : Result T F) → OnOk result (HasDropped old new) → OnErr result (new ≡ old) → IsGuarded site names limit base total new
+  guarded_checkpointed new (Ok x) dropped unchanged = guarded_dropped new dropped
   guarded_checkpointed new (Err fault) dropped unchanged = subst (IsGuarded site names limit base total) (sym unchanged) was

@@ -12,7 +12,8 @@ use crate::guarded_journal::GuardedJournal;
 use crate::{Pass, SiteLedger};
 use dots::Memory;
 use site_journal::{
-    DecodeFault, DecodedFrame, DeskFault, Gate, Journaled, Receipt, StepDeed, TakeFault,
+    DecodeFault, DecodedFrame, DeskFault, DroppedSteps, Gate, Journaled, Receipt, StepDeed,
+    TakeFault,
 };
 use status_report::{Answer, Ask};
 use std::alloc::Global;
@@ -248,14 +249,35 @@ impl<L: SiteLedger> SiteDesk<L> {
     }
 
     /// Drops the steps of the journal: the site's state becomes its base, and positions continue. Waits until the lock is free.
-    /// Fails only when out of memory.
+    /// Fails only when out of memory. The memory of the steps is released once the lock is free again.
     pub fn checkpoint<R: Wait>(&self, rt: &R) -> Result<(), Memory> {
-        self.lock.lock(rt).checkpoint()
+        let dropped = self.lock.lock(rt).checkpoint();
+        drop(dropped?);
+        Ok(())
     }
 
-    /// Drops the steps of the journal if their payload is more than `bytes` bytes. Returns whether it did. Fails only when out of
-    /// memory.
+    /// Drops the steps of the journal if their payload is more than `bytes` bytes, as `checkpoint` does. Returns whether it did.
+    /// Fails only when out of memory.
     pub fn checkpoint_above<R: Wait>(&self, rt: &R, bytes: u64) -> Result<bool, Memory> {
-        self.lock.lock(rt).checkpoint_above(bytes)
+        let dropped = self.lock.lock(rt).checkpoint_above(bytes);
+        released(dropped)
+    }
+
+    /// Drops the steps of the journal if no step may be added, as `checkpoint` does, so that of several threads that find it full one
+    /// alone does so. Returns whether it did. Fails only when out of memory.
+    pub fn checkpoint_if_full<R: Wait>(&self, rt: &R) -> Result<bool, Memory> {
+        let dropped = self.lock.lock(rt).checkpoint_if_full();
+        released(dropped)
+    }
+}
+
+// Releases the memory of what a journal has dropped, if it has. Returns whether it has.
+fn released(dropped: Result<Option<DroppedSteps>, Memory>) -> Result<bool, Memory> {
+    match dropped? {
+        Some(dropped) => {
+            drop(dropped);
+            Ok(true)
+        }
+        None => Ok(false),
     }
 }

@@ -1,5 +1,5 @@
 ghost use Rattle.std.specs.Prelude.{ℕ, ◌≡◌, ◌≤◌, ◌<◌, ◌↔◌, ◌⊎◌, ◌+◌, ◌-◌, ◌^◌, Err, IfErr, IfOk};
-ghost use Rattle.std.specs.Prelude.{IsTrue, MatchBool, OnErr, OnOk, min};
+ghost use Rattle.std.specs.Prelude.{IsSome, MatchOption, OnErr, OnOk, min};
 ghost use Rattle.dots.specs.declared.limits.TheConstants.{MOST_COUNT};
 ghost use Rattle.delta.specs.DeltaStates.{IsEmpty};
 ghost use Rattle.replica.specs.Site.{IsSameSite};
@@ -16,7 +16,8 @@ ghost use Rattle.site_desk.specs.Passes.{step_of};
 use crate::{Pass, SiteLedger};
 use dots::Memory;
 use site_journal::{
-    DecodeFault, DecodedFrame, DeskFault, Journaled, Receipt, Step, StepDeed, TakeFault,
+    DecodeFault, DecodedFrame, DeskFault, DroppedSteps, Journaled, Receipt, Step, StepDeed,
+    TakeFault,
 };
 use status_report::{Answer, Ask};
 use std::marker::Model;
@@ -308,8 +309,8 @@ impl<L: SiteLedger> GuardedJournal<L> {
         Ok(receipt_of(book, pass, position, step))
     }
 
-    /// Drops the journal's steps; the book keeps its count. Fails only when out of memory.
-    pub fn checkpoint(&mut self) -> Result<(), Memory>
+    /// Drops the journal's steps; the book keeps its count. Returns the memory of what it dropped. Fails only when out of memory.
+    pub fn checkpoint(&mut self) -> Result<DroppedSteps, Memory>
         ensures dropped { OnOk result (HasDropped self.old self.new) }
         ensures unchanged { OnErr result (self.new ≡ self.old) }
     {
@@ -317,20 +318,35 @@ impl<L: SiteLedger> GuardedJournal<L> {
         journal.checkpoint()
     }
 
-    /// Drops the journal's steps if their payload is more than `bytes` bytes. Returns whether it did. Fails only when out of
-    /// memory.
-    pub fn checkpoint_above(&mut self, bytes: u64) -> Result<bool, Memory>
-        ensures above { IfOk result (λ dropped. IsTrue dropped
+    /// Drops the journal's steps if their payload is more than `bytes` bytes, and returns the memory of what it dropped. Fails only
+    /// when out of memory.
+    pub fn checkpoint_above(&mut self, bytes: u64) -> Result<Option<DroppedSteps>, Memory>
+        ensures above { IfOk result (λ dropped. IsSome dropped
             ↔ (bytes < min (kept_by_steps self.old.steps) (2 ^ 64 - 1))) }
-        ensures done { IfOk result (λ dropped. MatchBool dropped
-            (HasDropped self.old self.new)
-            (self.new ≡ self.old)) }
+        ensures done { IfOk result (λ dropped. MatchOption dropped
+            (self.new ≡ self.old)
+            (λ _. HasDropped self.old self.new)) }
         ensures unchanged { OnErr result (self.new ≡ self.old) }
     {
         if self.journal.payload_bytes() <= bytes {
-            return Ok(false);
+            return Ok(None);
         }
-        self.checkpoint()?;
-        Ok(true)
+        let dropped = self.checkpoint()?;
+        Ok(Some(dropped))
+    }
+
+    /// Drops the journal's steps if no step may be added, and returns the memory of what it dropped. Fails only when out of memory.
+    pub fn checkpoint_if_full(&mut self) -> Result<Option<DroppedSteps>, Memory>
+        ensures full { IfOk result (λ dropped. IsSome dropped ↔ IsFull self.old) }
+        ensures done { IfOk result (λ dropped. MatchOption dropped
+            (self.new ≡ self.old)
+            (λ _. HasDropped self.old self.new)) }
+        ensures unchanged { OnErr result (self.new ≡ self.old) }
+    {
+        if !self.journal.is_full() {
+            return Ok(None);
+        }
+        let dropped = self.checkpoint()?;
+        Ok(Some(dropped))
     }
 }

@@ -108,6 +108,13 @@ fn take_fault(fault: TakeFault) -> DeskFault
     }
 }
 
+/// The memory of the base and the steps that a journal has dropped. Nothing reads it.
+#[derive(Drop)]
+pub struct DroppedSteps {
+    base: Replica,
+    steps: Vec<Step>,
+}
+
 /// The journal of a site: the replica that the journal began from (the base), the steps since with the result of each, and the
 /// replica. The steps lead from the base to the replica, each by its meaning at its state. A journal holds at most its limit of
 /// steps, and 2^40 are done in all.
@@ -452,16 +459,18 @@ impl Journaled {
         })
     }
 
-    /// Drops the steps: the replica's state becomes the base. Fails only when out of memory, and then changes nothing.
-    pub fn checkpoint(&mut self) -> Result<(), Memory>
+    /// Drops the steps: the replica's state becomes the base. Returns the memory of what it dropped, whose release takes milliseconds
+    /// where the steps hold long reports: a caller that holds a lock gives up the lock first. Fails only when out of memory, and then
+    /// changes nothing.
+    pub fn checkpoint(&mut self) -> Result<DroppedSteps, Memory>
         ensures journal { IsJournal self.old }
         ensures dropped { OnOk result (HasDropped self.old self.new) }
         ensures unchanged { OnErr result (self.new ≡ self.old) }
     {
         let base = self.replica.copy()?;
         self.start += self.steps.steps.len() as u64;
-        self.steps.clear();
-        drop(mem::replace(&mut self.base, base));
-        Ok(())
+        let steps = self.steps.take_all();
+        let base = mem::replace(&mut self.base, base);
+        Ok(DroppedSteps { base, steps })
     }
 }

@@ -22,7 +22,7 @@ pub use decoded_frame::DecodedFrame;
 pub use delta_codec::DecodeFault;
 pub use desk_fault::DeskFault;
 pub use dots::Memory;
-pub use journaled::{Journaled, MOST_STEPS};
+pub use journaled::{DroppedSteps, Journaled, MOST_STEPS};
 pub use ports::{Bell, Gate, Port};
 pub use receipt::Receipt;
 pub use replay_fault::ReplayFault;

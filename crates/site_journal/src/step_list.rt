@@ -7,6 +7,7 @@ use crate::Step;
 use crate::keeping::kept_by_deed;
 use dots::Memory;
 use std::alloc::Global;
+use std::mem;
 
 // Steps in order. Their payload is updated with each step, so that no call walks over them.
 #[derive(Drop)]
@@ -45,11 +46,12 @@ impl StepList {
         self.steps.push_reserved(step);
     }
 
-    // Drops all steps.
-    pub fn clear(&mut self)
+    // Takes all steps out.
+    pub fn take_all(&mut self) -> Vec<Step>
         ensures { self.new.steps.items ≡ [] }
     {
+        let none = Vec::new(*self.steps.allocator());
         self.payload_bytes = 0;
-        self.steps.clear();
+        mem::replace(&mut self.steps, none)
     }
 }

@@ -46,6 +46,15 @@ impl<L: StoredLedger> Model for RecordedSite<L> {
     ghost invariant = { λ s. s.is_lost ≡ false → IsRecorded L.base s.prefix s.journal };
 }
 
+// Drops a journal's steps. Fails only when out of memory.
+fn checkpoint<L: StoredLedger>(journal: &mut GuardedJournal<L>) -> Result<(), Memory>
+    ensures dropped { OnOk result (HasDropped journal.old journal.new) }
+    ensures unchanged { OnErr result (journal.new ≡ journal.old) }
+{
+    drop(journal.checkpoint()?);
+    Ok(())
+}
+
 impl<L: StoredLedger> RecordedSite<L> {
     // A site that has done no step, with its history.
     pub fn new(
@@ -286,7 +295,7 @@ impl<L: StoredLedger> RecordedSite<L> {
             taken_bytes,
             ..
         } = self;
-        match journal.checkpoint() {
+        match checkpoint(journal) {
             Ok(()) => {
                 *taken_bytes = 0;
                 Ok(())

@@ -11,8 +11,8 @@ pub const MOST_KEPT: u64 = 67_108_864;
 
 /// A desk whose journal is kept within its limits (this project's own).
 pub trait Upkeep<R> {
-    /// Drops the steps of the journal; at a desk with a store they are saved first. Errors, in order: 1 `Unsaved`, where the store has
-    /// failed; 2 `Memory`, and no step is dropped.
+    /// Drops the steps of the journal. A desk without a store does so only where the journal is full; one with a store saves them first.
+    /// Errors, in order: 1 `Unsaved`, where the store has failed; 2 `Memory`, and no step is dropped.
     fn drop_steps(&self, rt: &R) -> Result<(), DeskFault>
         ensures { IfErr result (λ fault.
             (fault ≡ DeskFault.Unsaved) ⊎ (fault ≡ DeskFault.Memory)) };
@@ -23,8 +23,8 @@ pub trait Upkeep<R> {
 
 impl<L: SiteLedger, R: Wait> Upkeep<R> for SiteDesk<L> {
     fn drop_steps(&self, rt: &R) -> Result<(), DeskFault> {
-        match self.checkpoint(rt) {
-            Ok(()) => Ok(()),
+        match self.checkpoint_if_full(rt) {
+            Ok(_) => Ok(()),
             Err(_) => Err(DeskFault::Memory),
         }
     }

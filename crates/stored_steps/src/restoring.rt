@@ -50,7 +50,10 @@ fn make_room(journal: &mut Journaled) -> Result<(), StoreFault>
         return Ok(());
     }
     match journal.checkpoint() {
-        Ok(()) => Ok(()),
+        Ok(dropped) => {
+            drop(dropped);
+            Ok(())
+        }
         Err(_) => Err(StoreFault::Memory),
     }
 }
