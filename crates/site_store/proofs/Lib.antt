@@ -1,6 +1,9 @@
-pub mod StepLemmas
 pub mod RowLemmas
+pub mod StepLemmas
+pub mod KeptLemmas
+pub mod MoveLemmas
 pub mod WriteLemmas
 pub mod InsideLemmas
 pub mod GroupLemmas
+pub mod KeepingLemmas
 pub mod RestoredSites

@@ -1,5 +1,5 @@
 -- The site that is restored of the rows that a database lists.
-use Rattle.std.proofs.Common.{◌≡◌, ◌≢◌, ◌⊎◌, inl, inr, ℕ, List, [], ◌∷◌, sym, subst}
+use Rattle.std.proofs.Common.{◌≢◌, ◌⊎◌, inl, inr, ℕ, List, [], ◌∷◌, sym, subst}
 use Rattle.sqlite.specs.Order.{Row}
 use Rattle.replica.specs.Site.{IsSameSite, SiteState}
 use Rattle.stored_steps.specs.declared.base.StoredBase.{StoredBase}

@@ -113,7 +113,7 @@ same_steps at (t ∷ list) (s ∷ more) len h = ap₂ (λ x xs. x ∷ xs) (head 
     head (inl e) = sym (step_stored at at s t e)
     head (inr h) = let late = is_not_before (at + 1) list at s h in absurd (omega arith)
 
-rows_length : (at : ℕ) (list : List Stored) → length (rows_from at list) ≡ length list
+pub rows_length : (at : ℕ) (list : List Stored) → length (rows_from at list) ≡ length list
 rows_length at [] = refl
 rows_length at (s ∷ more) = ap suc (rows_length (at + 1) more)
 

@@ -7,7 +7,8 @@ use Rattle.sqlite.specs.declared.error.Error.{Error}
 use Rattle.sqlite.specs.State.{State, Executes, CommitsBy, IsUnchanged, IsRolledBack}
 use Rattle.sqlite.proofs.InsideLemmas.{fails_whole}
 use Rattle.stored_steps.specs.Stored.{Stored}
-use Rattle.site_store.specs.Steps.{Holds, IsIdle, LeavesOnly, Lists, IsInside, step_row, step_schema}
+use Rattle.site_store.specs.Kept.{SparesKept}
+use Rattle.site_store.specs.Steps.{Holds, IsIdle, IsStoreSchema, LeavesOnly, Lists, IsInside, step_row}
 use Rattle.site_store.proofs.RowLemmas.{lists_more}
 use Rattle.site_store.proofs.StepLemmas.{AddsTo, adds, commits_add, commits_outside, insert_text, params_of, stored_row}
 
@@ -22,11 +23,11 @@ pub holds_added : (old new : State) (at first : ℕ) (s : Stored) (words : List 
 holds_added old new at first s words list (Err e) params same ran holds place = tt
 holds_added old new at first s words list (Ok count) params same ran holds place =
     let added = (adds old new at s words count holds.schema (subst (λ p. Executes insert_text p old new (Ok count)) same ran)).0 in
-    record { schema = added.schema; rows = lists_added old.now new.now at first s words list added holds.rows place }
+    record { schema = subst IsStoreSchema (sym added.schema) holds.schema; rows = lists_added old.now new.now at first s words list added holds.rows place }
 
 pub holds_same : (old new : State) (first : ℕ) (list : List Stored) → new.now ≡ old.now → Holds old first list → Holds new first list
 holds_same old new first list same holds = record {
-  schema = ap (λ (d : Database). d.schema) same ∙ holds.schema;
+  schema = subst (λ (d : Database). IsStoreSchema d.schema) (sym same) holds.schema;
   rows = subst (λ (d : Database). Lists (d.trees 0) first list) (sym same) holds.rows;
 }
 
@@ -55,6 +56,14 @@ commits_added old at first s words list db params same holds place commits =
     let it = commits_add old at s words db holds.schema (subst (λ p. CommitsBy insert_text p old db) same commits) in
     subst (λ trees. Lists (trees 0) first (list ++ s ∷ [])) (sym it.2) (lists_added old.now it.0 at first s words list it.1 holds.rows place)
 
+-- an append leaves the kept rows as they were
+pub spares_added : (old new : State) (at : ℕ) (s : Stored) (words : List ℕ) (r : Result ℕ Error) (params : Row) → params ≡ params_of at s words → Executes insert_text params old new r → IsStoreSchema old.now.schema
+    → OnOk r (SparesKept old new)
+spares_added old new at s words (Err e) params same ran has = tt
+spares_added old new at s words (Ok count) params same ran has =
+    let added = (adds old new at s words count has (subst (λ p. Executes insert_text p old new (Ok count)) same ran)).0 in
+    record { schema = added.schema; kept = added.kept }
+
 -- an append outside a transaction leaves none open
 pub idle_added : (old new : State) (at first : ℕ) (s : Stored) (words : List ℕ) (list : List Stored) (r : Result ℕ Error) (params : Row) → params ≡ params_of at s words → Executes insert_text params old new r → Holds old first list
     → old.in_transaction ≡ false → OnOk r (IsIdle new)
@@ -73,7 +82,7 @@ stays_inside old new at first s words list (Ok count) params same ran holds insi
     let all = adds old new at s words count holds.schema (subst (λ p. Executes insert_text p old new (Ok count)) same ran) in
     record { mode = subst IsTrue (sym all.1.mode) inside; is_open = all.1.is_open; committed = rw inside at all.1.committed_is }
 
-pub commits_nothing_inside : (old : State) (at : ℕ) (s : Stored) (words : List ℕ) (db : Trees) (params : Row) → params ≡ params_of at s words → old.now.schema ≡ step_schema → IsTrue old.in_transaction
+pub commits_nothing_inside : (old : State) (at : ℕ) (s : Stored) (words : List ℕ) (db : Trees) (params : Row) → params ≡ params_of at s words → IsStoreSchema old.now.schema → IsTrue old.in_transaction
     → CommitsBy insert_text params old db → ⊥
 commits_nothing_inside old at s words db params same has inside commits =
     let outside = commits_outside old (params_of at s words) db has (subst (λ p. CommitsBy insert_text p old db) same commits) in

@@ -1,20 +1,29 @@
 -- A site that goes on over the rows that a connection holds.
-use Rattle.std.specs.Prelude.{◌≡◌, ℕ, ◌+◌, ◌++◌, List, [], ◌∷◌, length}
+use Rattle.std.specs.Prelude.{◌≡◌, ℕ, ◌+◌, ◌-◌, ◌^◌, ◌++◌, List, [], ◌∷◌, drop, length, min, sum_by}
 use Rattle.sqlite.specs.State.{State}
-use Rattle.stored_steps.specs.declared.restored_site.RestoredSite.{RestoredSite}
 use Rattle.stored_steps.specs.Restoring.{IsRestoredSite}
 use Rattle.stored_steps.specs.StartRows.{start_row}
 use Rattle.stored_steps.specs.Stored.{Stored}
 use Rattle.site_store.specs.declared.resuming.ResumedSite.{ResumedSite}
 use Rattle.site_store.specs.Steps.{Holds, LeavesOnly}
 
--- a connection holds the rows of which `site` was restored, and `next` is the position of the next row
-pub record IsRestoredAt (s : State) (site : RestoredSite) (next : ℕ) : Type 0 where
+-- how many bytes the body of a row has
+abbrev pub body_bytes : Stored → ℕ
+body_bytes row = length row.bytes
+
+-- a site knows how many of these rows stand behind the base, with that of its start, which has no bytes, and how many bytes they have
+pub record CountsRows (rows : List Stored) (it : ResumedSite) : Type 0 where
+  pub rows_are : it.rows ≡ length rows
+  pub bytes_are : it.bytes ≡ min (sum_by body_bytes (drop 1 rows)) (2 ^ 64 - 1)
+
+-- a connection holds the rows of which the site was restored, and `next` is the position of the next row
+pub record IsRestoredAt (s : State) (it : ResumedSite) : Type 0 where
   pub first : ℕ
   pub rows : List Stored
   pub holds : Holds s first rows
-  pub restored : IsRestoredSite rows site
-  pub next_is : next ≡ first + length rows
+  pub restored : IsRestoredSite rows it.site
+  pub next_is : it.next ≡ first + length rows
+  pub counts : CountsRows rows it
 
 -- a connection holds the rows of which the site was restored, and then the row of a start; a crash leaves these
 pub record IsResumed (s : State) (it : ResumedSite) : Type 0 where
@@ -22,5 +31,6 @@ pub record IsResumed (s : State) (it : ResumedSite) : Type 0 where
   pub rows : List Stored
   pub restored : IsRestoredSite rows it.site
   pub next_is : it.next ≡ first + length rows + 1
+  pub counts : CountsRows rows it
   pub holds : Holds s first (rows ++ start_row ∷ [])
   pub leaves : LeavesOnly s first (rows ++ start_row ∷ [])

@@ -1,5 +1,5 @@
 -- The table of steps, and what a connection holds.
-use Rattle.std.specs.Prelude.{◌≡◌, ℕ, ◌+◌, List, [], ◌∷◌, ◌++◌, map, codes, Bool, true, false, pos, Some, IsTrue}
+use Rattle.std.specs.Prelude.{◌≡◌, ◌⊎◌, ℕ, ◌+◌, List, [], ◌∷◌, map, codes, Bool, true, false, pos, Some, IsTrue}
 use Rattle.std.specs.List.Sorted.{IsPermutation}
 use Rattle.sqlite.specs.Collation.TheVariants.{Binary}
 use Rattle.sqlite.specs.declared.types.Value.TheVariants.{Null, Int, Blob as Bytes}
@@ -17,11 +17,11 @@ use Rattle.stored_steps.specs.Stored.{Stored}
 abbrev pub step_column : List ℕ → Kind → Bool → Column
 step_column name kind not_null = record { name = name; kind = kind; is_strict = true; not_null = not_null; default = Null; collation = Binary }
 
--- CREATE TABLE step (position INTEGER PRIMARY KEY, pass INTEGER NOT NULL, kind INTEGER NOT NULL, body BLOB NOT NULL, words TEXT NOT NULL) STRICT
-abbrev pub step_table : Table
-step_table = record {
-  name = codes "step";
-  tree = 0;
+-- a table of rows: CREATE TABLE name (position INTEGER PRIMARY KEY, pass INTEGER NOT NULL, kind INTEGER NOT NULL, body BLOB NOT NULL, words TEXT NOT NULL) STRICT
+abbrev pub row_table : List ℕ → ℕ → Table
+row_table name tree = record {
+  name = name;
+  tree = tree;
   columns = step_column (codes "position") Integer false
       ∷ step_column (codes "pass") Integer true
       ∷ step_column (codes "kind") Integer true
@@ -38,8 +38,25 @@ step_table = record {
   is_counted = false;
 }
 
+-- the table of steps: a base and the rows since
+abbrev pub step_table : Table
+step_table = row_table (codes "step") 0
+
+-- the table of kept rows: those in whose place a base was put
+abbrev pub kept_table : Table
+kept_table = row_table (codes "kept") 1
+
+-- a store has the one table
 abbrev pub step_schema : Schema
 step_schema = record { tables = step_table ∷ []; indexes = []; views = [] }
+
+-- a store that keeps rows has both tables
+abbrev pub kept_schema : Schema
+kept_schema = record { tables = step_table ∷ kept_table ∷ []; indexes = []; views = [] }
+
+-- a schema is that of a store, which keeps rows or not
+abbrev pub IsStoreSchema : Schema → Type 0
+IsStoreSchema schema = (schema ≡ step_schema) ⊎ (schema ≡ kept_schema)
 
 abbrev pub no_schema : Schema
 no_schema = record { tables = []; indexes = []; views = [] }
@@ -61,9 +78,9 @@ rows_from at (s ∷ more) = step_row at s ∷ rows_from (at + 1) more
 abbrev pub Lists : List Row → ℕ → List Stored → Type 0
 Lists rows at list = IsPermutation (map shown rows) (rows_from at list)
 
--- a database holds these steps in its one table
+-- a database holds these steps in its table of steps
 pub record Holds (s : State) (at : ℕ) (list : List Stored) : Type 0 where
-  pub schema : s.now.schema ≡ step_schema
+  pub schema : IsStoreSchema s.now.schema
   pub rows : Lists (s.now.trees 0) at list
 
 -- each outcome of a crash has these steps

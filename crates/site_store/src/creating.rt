@@ -3,10 +3,11 @@ ghost use Rattle.std.specs.Prelude.{◌≡◌, ◌⊎◌, ◌↔◌, ◌<◌, �
 ghost use Rattle.sqlite.specs.Held.{state};
 ghost use Rattle.sqlite.specs.State.{HasCleanDisk};
 ghost use Rattle.sqlite.specs.Tree.{Trees};
-ghost use Rattle.site_store.specs.Steps.{Holds, IsIdle, LeavesOnly, Lists, no_schema};
+ghost use Rattle.site_store.specs.Steps.{Holds, IsIdle, LeavesOnly, Lists, no_schema, step_schema};
 
 use crate::group::{begin, commit};
-use crate::replacing::put_base;
+use crate::tables::make_steps;
+use crate::writing::append;
 use sqlite::{Alter, Connection, Error};
 use stored_steps::StoredRow;
 
@@ -20,6 +21,9 @@ pub fn create<S: Alter>(conn: &mut Connection<S>, at: u64, base: &StoredRow) -> 
         → IfOk result (λ done. IsTrue done
         → Holds (state S.Store conn.new) at (base.now ∷ [])
         × LeavesOnly (state S.Store conn.new) at (base.now ∷ [])) }
+    ensures schema { HasCleanDisk (state S.Store conn.new)
+        → (state S.Store conn.old).now.schema ≡ no_schema
+        → IfOk result (λ done. IsTrue done → (state S.Store conn.new).now.schema ≡ step_schema) }
     ensures idle { HasCleanDisk (state S.Store conn.new)
         → (state S.Store conn.old).now.schema ≡ no_schema
         → IfOk result (λ done. IsTrue done → IsIdle (state S.Store conn.new)) }
@@ -35,7 +39,8 @@ pub fn create<S: Alter>(conn: &mut Connection<S>, at: u64, base: &StoredRow) -> 
         return Ok(false);
     }
     begin(conn)?;
-    put_base(conn, at, base)?;
+    make_steps(conn)?;
+    append(conn, at, base)?;
     commit(conn)?;
     Ok(true)
 }

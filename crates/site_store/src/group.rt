@@ -4,7 +4,8 @@ ghost use Rattle.sqlite.specs.Held.{state};
 ghost use Rattle.sqlite.specs.State.{HasCleanDisk};
 ghost use Rattle.sqlite.specs.Tree.{Trees};
 ghost use Rattle.stored_steps.specs.Stored.{Stored};
-ghost use Rattle.site_store.specs.Steps.{Holds, IsIdle, IsInside, LeavesOnly, Lists, no_schema};
+ghost use Rattle.site_store.specs.Kept.{HoldsAll, IsCommitted, LeavesAll, ListsAll, SparesKept};
+ghost use Rattle.site_store.specs.Steps.{Holds, IsIdle, IsInside, LeavesOnly, Lists};
 
 use crate::writing::append;
 use sqlite::{Alter, Connection, Error};
@@ -23,6 +24,11 @@ fn append_each<S: Alter>(
         → IsTrue (state S.Store conn.old).is_open
         → OnOk result (Holds (state S.Store conn.new) first (list ++ steps.now)
         × IsInside (state S.Store conn.old) (state S.Store conn.new)) }
+    ensures spared { HasCleanDisk (state S.Store conn.new) → (first : ℕ) (list : List Stored)
+        → Holds (state S.Store conn.old) first list → at ≡ first + length list
+        → IsTrue (state S.Store conn.old).in_transaction
+        → IsTrue (state S.Store conn.old).is_open
+        → OnOk result (SparesKept (state S.Store conn.old) (state S.Store conn.new)) }
     ensures crash { HasCleanDisk (state S.Store conn.new) → (first : ℕ) (list : List Stored)
         → Holds (state S.Store conn.old) first list → at ≡ first + length list
         → IsTrue (state S.Store conn.old).in_transaction
@@ -39,22 +45,12 @@ fn append_each<S: Alter>(
     Ok(())
 }
 
-// Begins a transaction by its text, in a database that has the table of steps, or no table.
+// Begins a transaction by its text.
 pub(crate) fn begin<S: Alter>(conn: &mut Connection<S>) -> Result<usize, Error>
-    ensures begun { HasCleanDisk (state S.Store conn.new) → (first : ℕ) (list : List Stored)
-        → Holds (state S.Store conn.old) first list
-        → OnOk result (Holds (state S.Store conn.new) first list
+    ensures begun { HasCleanDisk (state S.Store conn.new)
+        → OnOk result (((state S.Store conn.new).now ≡ (state S.Store conn.old).now)
         × IsInside (state S.Store conn.old) (state S.Store conn.new)) }
-    ensures blank { HasCleanDisk (state S.Store conn.new)
-        → (state S.Store conn.old).now.schema ≡ no_schema
-        → OnOk result (((state S.Store conn.new).now.schema ≡ no_schema)
-        × IsInside (state S.Store conn.old) (state S.Store conn.new)) }
-    ensures crash { HasCleanDisk (state S.Store conn.new) → (first : ℕ) (list : List Stored)
-        → Holds (state S.Store conn.old) first list
-        → (db : Trees) → (state S.Store conn.new).may_leave db
-        → (state S.Store conn.old).may_leave db }
-    ensures blank_crash { HasCleanDisk (state S.Store conn.new)
-        → (state S.Store conn.old).now.schema ≡ no_schema
+    ensures crash { HasCleanDisk (state S.Store conn.new)
         → (db : Trees) → (state S.Store conn.new).may_leave db
         → (state S.Store conn.old).may_leave db }
     ensures clean { HasCleanDisk (state S.Store conn.new) → HasCleanDisk (state S.Store conn.old) }
@@ -64,17 +60,11 @@ pub(crate) fn begin<S: Alter>(conn: &mut Connection<S>) -> Result<usize, Error>
 
 // Commits by its text.
 pub(crate) fn commit<S: Alter>(conn: &mut Connection<S>) -> Result<usize, Error>
-    ensures done { HasCleanDisk (state S.Store conn.new) → (first : ℕ) (list : List Stored)
-        → Holds (state S.Store conn.old) first list
-        → OnOk result (Holds (state S.Store conn.new) first list
-        × LeavesOnly (state S.Store conn.new) first list) }
-    ensures idle { HasCleanDisk (state S.Store conn.new) → (first : ℕ) (list : List Stored)
-        → Holds (state S.Store conn.old) first list
-        → OnOk result (IsIdle (state S.Store conn.new)) }
-    ensures crash { HasCleanDisk (state S.Store conn.new) → (first : ℕ) (list : List Stored)
-        → Holds (state S.Store conn.old) first list
+    ensures done { HasCleanDisk (state S.Store conn.new)
+        → OnOk result (IsCommitted (state S.Store conn.old) (state S.Store conn.new)) }
+    ensures crash { HasCleanDisk (state S.Store conn.new)
         → (db : Trees) → (state S.Store conn.new).may_leave db
-        → (state S.Store conn.old).may_leave db ⊎ Lists (db 0) first list }
+        → (state S.Store conn.old).may_leave db ⊎ (db ≡ (state S.Store conn.old).now.trees) }
     ensures clean { HasCleanDisk (state S.Store conn.new) → HasCleanDisk (state S.Store conn.old) }
 {
     conn.execute("COMMIT", &[])
@@ -99,6 +89,19 @@ pub fn append_all<S: Alter>(
         → Holds (state S.Store conn.old) first list → at ≡ first + length list
         → (db : Trees) → (state S.Store conn.new).may_leave db
         → (state S.Store conn.old).may_leave db ⊎ Lists (db 0) first (list ++ steps.now) }
+    // The kept rows stay, also over a crash.
+    ensures spared { HasCleanDisk (state S.Store conn.new) → (first : ℕ) (kept list : List Stored)
+        → HoldsAll (state S.Store conn.old) first kept list
+        → at ≡ first + length kept + length list
+        → OnOk result (HoldsAll (state S.Store conn.new) first kept (list ++ steps.now)
+        × LeavesAll (state S.Store conn.new) first kept (list ++ steps.now)) }
+    ensures spared_crash { HasCleanDisk (state S.Store conn.new)
+        → (first : ℕ) (kept list : List Stored)
+        → HoldsAll (state S.Store conn.old) first kept list
+        → at ≡ first + length kept + length list
+        → (db : Trees) → (state S.Store conn.new).may_leave db
+        → (state S.Store conn.old).may_leave db
+        ⊎ ListsAll db first kept (list ++ steps.now) }
     ensures clean { HasCleanDisk (state S.Store conn.new) → HasCleanDisk (state S.Store conn.old) }
 {
     begin(conn)?;

@@ -9,7 +9,8 @@ ghost use Rattle.sqlite.specs.Tree.{Trees};
 ghost use Rattle.sqlite.specs.WalFiles.{image_at};
 ghost use Rattle.stored_steps.specs.Stored.{Stored};
 ghost use Rattle.site_store.specs.declared.shape.Shape.{Shape};
-ghost use Rattle.site_store.specs.Steps.{Holds, IsIdle, LeavesOnly, Lists, no_schema, step_schema};
+ghost use Rattle.site_store.specs.Steps.{Holds, IsIdle, IsStoreSchema, LeavesOnly, Lists};
+ghost use Rattle.site_store.specs.Steps.{no_schema, step_schema};
 
 use crate::OpenFault;
 use crate::creating::create;
@@ -24,8 +25,8 @@ fn with_shape<S: Alter + Drop>(
     wanted: Shape,
 ) -> Result<Connection<S>, OpenFault>
     ensures same { IfOk result (λ it. it ≡ conn) }
-    ensures steps { wanted ≡ Shape.Steps
-        → IfOk result (λ it. (state S.Store it).now.schema ≡ step_schema) }
+    ensures store { wanted ≡ Shape.Store
+        → IfOk result (λ it. IsStoreSchema (state S.Store it).now.schema) }
     ensures blank { wanted ≡ Shape.Blank
         → IfOk result (λ it. (state S.Store it).now.schema ≡ no_schema) }
 {
@@ -54,6 +55,9 @@ fn with_base<S: Alter + Drop>(
         × LeavesOnly (state S.Store it) at (base.now ∷ [])) }
     ensures idle { (state S.Store conn).now.schema ≡ no_schema
         → IfOk result (λ it. HasCleanDisk (state S.Store it) → IsIdle (state S.Store it)) }
+    ensures schema { (state S.Store conn).now.schema ≡ no_schema
+        → IfOk result (λ it. HasCleanDisk (state S.Store it)
+        → (state S.Store it).now.schema ≡ step_schema) }
 {
     let mut conn = conn;
     let fault = match create(&mut conn, at, base) {
@@ -72,7 +76,7 @@ fn open_file<S: Start>(
     start: S,
     wanted: Shape,
 ) -> Result<Connection<FileStore<FileFrom<S>>>, OpenFault>
-    ensures holds { wanted ≡ Shape.Steps → IfOk result (λ conn. HasCleanDisk (file_state conn)
+    ensures holds { wanted ≡ Shape.Store → IfOk result (λ conn. HasCleanDisk (file_state conn)
         → (db : Trees) (first : ℕ) (rows : List Stored)
         → HoldsDatabase (image_at S.Start) db → Lists (db 0) first rows
         → Holds (file_state conn) first rows) }
@@ -82,8 +86,8 @@ fn open_file<S: Start>(
         → Opens (file_state conn)) }
     ensures sums { IfOk result (λ conn. HasCleanDisk (file_state conn)
         → IsBlankAs true (image_at S.Start) → IsTrue (view conn.store).has_sums) }
-    ensures steps { wanted ≡ Shape.Steps
-        → IfOk result (λ conn. (file_state conn).now.schema ≡ step_schema) }
+    ensures store { wanted ≡ Shape.Store
+        → IfOk result (λ conn. IsStoreSchema (file_state conn).now.schema) }
     ensures blank { wanted ≡ Shape.Blank
         → IfOk result (λ conn. (file_state conn).now.schema ≡ no_schema) }
 {
@@ -93,8 +97,8 @@ fn open_file<S: Start>(
     }
 }
 
-/// Opens the store at a path. `resume` then restores its site. A file that is missing is made, and has no table: so a mistyped path gives
-/// `Blank`, and leaves a file.
+/// Opens the store at a path, which keeps rows or not. `resume` then restores its site. A file that is missing is made, and has no table: so
+/// a mistyped path gives `Blank`, and leaves a file.
 ///
 /// Errors, in order: `InUse`, if the file is open elsewhere; `CannotOpen`; `NoStore`, if the file is no database; `Damaged`, if a
 /// page of it is damaged; `Database`, if the database fails in another way; `Blank`, if the file is new or has no table yet; `NoStore`
@@ -114,9 +118,9 @@ pub fn open<S: Start>(
         → FindsIn (image_at S.Start) (file_state conn)) }
     ensures opened { IfOk result (λ conn. HasCleanDisk (file_state conn)
         → Opens (file_state conn)) }
-    ensures schema { IfOk result (λ conn. (file_state conn).now.schema ≡ step_schema) }
+    ensures schema { IfOk result (λ conn. IsStoreSchema (file_state conn).now.schema) }
 {
-    open_file(rt, path, start, Shape::Steps)
+    open_file(rt, path, start, Shape::Store)
 }
 
 /// Opens a file that is new or has no table yet, for `create`, and makes one that is missing. The pages of a new file have sums.

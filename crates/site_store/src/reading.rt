@@ -3,7 +3,7 @@ ghost use Rattle.std.specs.List.Sorted.{IsPermutation};
 ghost use Rattle.sqlite.specs.Held.{state};
 ghost use Rattle.sqlite.specs.State.{HasCleanDisk, IsUnchanged};
 ghost use Rattle.sqlite.specs.Tree.{Trees};
-ghost use Rattle.site_store.specs.Steps.{Lists, rows_from, shown, step_row, step_schema};
+ghost use Rattle.site_store.specs.Steps.{IsStoreSchema, Lists, rows_from, shown, step_row};
 
 use dots::Bytes;
 use sqlite::{Alter, Connection, Error, Row};
@@ -20,8 +20,8 @@ pub struct Listed {
 }
 
 // The row of a store that a row of an answer shows, if it is one at this position.
-fn kept_at(alloc: Global, row: &Row, at: u64) -> Result<Option<StoredRow>, Error>
-    ensures { IfOk result (λ found. IfSome found (λ kept. row.now ≡ step_row at kept)) }
+fn stored_at(alloc: Global, row: &Row, at: u64) -> Result<Option<StoredRow>, Error>
+    ensures { IfOk result (λ found. IfSome found (λ stored. row.now ≡ step_row at stored)) }
 {
     if row.column_count() != 4 {
         return Ok(None);
@@ -38,7 +38,7 @@ fn kept_at(alloc: Global, row: &Row, at: u64) -> Result<Option<StoredRow>, Error
 }
 
 // The rows of a store that rows of an answer show, if they stand at positions from `first` on.
-fn kept_from(alloc: Global, rows: &[Row], first: u64) -> Result<Option<Vec<StoredRow>>, Error>
+fn stored_from(alloc: Global, rows: &[Row], first: u64) -> Result<Option<Vec<StoredRow>>, Error>
     ensures { IfOk result (λ found. IfSome found
         (λ steps. rows.now ≡ rows_from first steps.items)) }
 {
@@ -48,10 +48,10 @@ fn kept_from(alloc: Global, rows: &[Row], first: u64) -> Result<Option<Vec<Store
         if at == u64::MAX {
             return Ok(None);
         }
-        let Some(kept) = kept_at(alloc, row, at)? else {
+        let Some(stored) = stored_at(alloc, row, at)? else {
             return Ok(None);
         };
-        steps.push(kept)?;
+        steps.push(stored)?;
         at += 1;
     }
     Ok(Some(steps))
@@ -65,17 +65,29 @@ fn first_of(rows: &[Row]) -> Result<u64, Error> {
     }
 }
 
+// The rows of a store that rows of an answer show, and the position of the first, if each but the first has the next position.
+pub(crate) fn listed_from(alloc: Global, rows: &[Row]) -> Result<Option<Listed>, Error>
+    ensures { IfOk result (λ found. IfSome found
+        (λ it. rows.now ≡ rows_from it.first it.steps.items)) }
+{
+    let first = first_of(rows)?;
+    match stored_from(alloc, rows, first)? {
+        Some(steps) => Ok(Some(Listed { first, steps })),
+        None => Ok(None),
+    }
+}
+
 // All rows of the table of steps, as they are shown.
-fn query_rows<S: Alter>(conn: &mut Connection<S>) -> Result<Vec<Row>, Error>
+pub(crate) fn query_rows<S: Alter>(conn: &mut Connection<S>) -> Result<Vec<Row>, Error>
     ensures listed { HasCleanDisk (state S.Store conn.new)
-        → (state S.Store conn.old).now.schema ≡ step_schema
+        → IsStoreSchema (state S.Store conn.old).now.schema
         → IfOk result (λ rows.
         IsPermutation (map shown ((state S.Store conn.old).now.trees 0)) rows.items) }
     ensures same { HasCleanDisk (state S.Store conn.new)
-        → (state S.Store conn.old).now.schema ≡ step_schema
+        → IsStoreSchema (state S.Store conn.old).now.schema
         → OnOk result (IsUnchanged (state S.Store conn.old) (state S.Store conn.new)) }
     ensures crash { HasCleanDisk (state S.Store conn.new)
-        → (state S.Store conn.old).now.schema ≡ step_schema
+        → IsStoreSchema (state S.Store conn.old).now.schema
         → (db : Trees) → (state S.Store conn.new).may_leave db
         → (state S.Store conn.old).may_leave db }
     ensures clean { HasCleanDisk (state S.Store conn.new) → HasCleanDisk (state S.Store conn.old) }
@@ -91,23 +103,19 @@ fn query_rows<S: Alter>(conn: &mut Connection<S>) -> Result<Vec<Row>, Error>
 /// rows. Fails with the database's error.
 pub fn read_all<S: Alter>(alloc: Global, conn: &mut Connection<S>) -> Result<Option<Listed>, Error>
     ensures listed { HasCleanDisk (state S.Store conn.new)
-        → (state S.Store conn.old).now.schema ≡ step_schema
+        → IsStoreSchema (state S.Store conn.old).now.schema
         → IfOk result (λ found. IfSome found
         (λ it. Lists ((state S.Store conn.old).now.trees 0) it.first it.steps.items)) }
     ensures same { HasCleanDisk (state S.Store conn.new)
-        → (state S.Store conn.old).now.schema ≡ step_schema
+        → IsStoreSchema (state S.Store conn.old).now.schema
         → OnOk result (IsUnchanged (state S.Store conn.old) (state S.Store conn.new)) }
     // A read commits nothing.
     ensures crash { HasCleanDisk (state S.Store conn.new)
-        → (state S.Store conn.old).now.schema ≡ step_schema
+        → IsStoreSchema (state S.Store conn.old).now.schema
         → (db : Trees) → (state S.Store conn.new).may_leave db
         → (state S.Store conn.old).may_leave db }
     ensures clean { HasCleanDisk (state S.Store conn.new) → HasCleanDisk (state S.Store conn.old) }
 {
     let rows = query_rows(conn)?;
-    let first = first_of(rows.as_slice())?;
-    match kept_from(alloc, rows.as_slice(), first)? {
-        Some(steps) => Ok(Some(Listed { first, steps })),
-        None => Ok(None),
-    }
+    listed_from(alloc, rows.as_slice())
 }

@@ -1,90 +1,62 @@
-ghost use Rattle.std.specs.Prelude.{◌≡◌, ◌⊎◌, ◌↔◌, ◌<◌, ◌^◌, ◌∷◌, [], IfOk, IsTrue, Ok, OnOk, false, ℕ, List};
+ghost use Rattle.std.specs.Prelude.{◌≡◌, ◌⊎◌, ◌↔◌, ◌<◌, ◌^◌, ◌+◌, ◌++◌, ◌∷◌, [], ℕ, List};
+ghost use Rattle.std.specs.Prelude.{IfOk, IsTrue, Ok, OnOk, false, length};
 ghost use Rattle.sqlite.specs.Held.{state};
 ghost use Rattle.sqlite.specs.State.{HasCleanDisk};
 ghost use Rattle.sqlite.specs.Tree.{Trees};
 ghost use Rattle.stored_steps.specs.Stored.{Stored};
-ghost use Rattle.site_store.specs.Steps.{Holds, IsIdle, IsInside, LeavesOnly, Lists, no_schema};
-ghost use Rattle.site_store.specs.Steps.{step_schema};
+ghost use Rattle.site_store.specs.Kept.{HoldsAll, LeavesAll, ListsAll};
+ghost use Rattle.site_store.specs.Steps.{Holds, IsIdle, IsInside, LeavesOnly, Lists, kept_schema};
 
 use crate::group::{begin, commit};
+use crate::keeping::move_rows;
+use crate::shape::keeps_rows;
+use crate::tables::{drop_steps, make_steps};
 use crate::writing::append;
 use sqlite::{Alter, Connection, Error};
 use stored_steps::StoredRow;
 
-// Drops the table of steps, within a transaction.
-fn drop_table<S: Alter>(conn: &mut Connection<S>) -> Result<usize, Error>
-    ensures dropped { HasCleanDisk (state S.Store conn.new)
-        → IsTrue (state S.Store conn.old).in_transaction
-        → (state S.Store conn.old).now.schema ≡ step_schema
-        → OnOk result (IsInside (state S.Store conn.old) (state S.Store conn.new)
-        × ((state S.Store conn.new).now.schema ≡ no_schema)) }
-    ensures crash { HasCleanDisk (state S.Store conn.new)
-        → IsTrue (state S.Store conn.old).in_transaction
-        → (state S.Store conn.old).now.schema ≡ step_schema
-        → (db : Trees) → (state S.Store conn.new).may_leave db
-        → (state S.Store conn.old).may_leave db }
-    ensures clean { HasCleanDisk (state S.Store conn.new) → HasCleanDisk (state S.Store conn.old) }
-{
-    conn.execute("DROP TABLE step", &[])
-}
-
-// Makes the table of steps, within a transaction.
-fn make_table<S: Alter>(conn: &mut Connection<S>) -> Result<usize, Error>
-    ensures made { HasCleanDisk (state S.Store conn.new)
-        → IsTrue (state S.Store conn.old).in_transaction
-        → (state S.Store conn.old).now.schema ≡ no_schema → (at : ℕ)
+// Takes all rows out of the table of steps, within a transaction. A store that keeps rows moves them.
+fn clear_steps<S: Alter>(conn: &mut Connection<S>) -> Result<(), Error>
+    ensures cleared { HasCleanDisk (state S.Store conn.new)
+        → IsTrue (state S.Store conn.old).in_transaction → (first : ℕ) (list : List Stored)
+        → Holds (state S.Store conn.old) first list → (at : ℕ)
         → OnOk result (IsInside (state S.Store conn.old) (state S.Store conn.new)
         × Holds (state S.Store conn.new) at []) }
-    ensures crash { HasCleanDisk (state S.Store conn.new)
+    ensures kept { HasCleanDisk (state S.Store conn.new)
         → IsTrue (state S.Store conn.old).in_transaction
-        → (state S.Store conn.old).now.schema ≡ no_schema
+        → (first : ℕ) (kept list : List Stored)
+        → HoldsAll (state S.Store conn.old) first kept list
+        → OnOk result (((state S.Store conn.new).now.schema ≡ kept_schema)
+        × Lists ((state S.Store conn.new).now.trees 1) first (kept ++ list)) }
+    ensures crash { HasCleanDisk (state S.Store conn.new)
+        → IsTrue (state S.Store conn.old).in_transaction → (first : ℕ) (list : List Stored)
+        → Holds (state S.Store conn.old) first list
         → (db : Trees) → (state S.Store conn.new).may_leave db
         → (state S.Store conn.old).may_leave db }
     ensures clean { HasCleanDisk (state S.Store conn.new) → HasCleanDisk (state S.Store conn.old) }
 {
-    conn.execute(
-        "CREATE TABLE step (position INTEGER PRIMARY KEY, pass INTEGER NOT NULL, kind INTEGER NOT NULL, body BLOB NOT NULL, words TEXT NOT NULL) STRICT",
-        &[],
-    )
-}
-
-// Makes the table of steps and puts a base at this position, within a transaction.
-pub(crate) fn put_base<S: Alter>(
-    conn: &mut Connection<S>,
-    at: u64,
-    base: &StoredRow,
-) -> Result<(), Error>
-    requires fits { at < 2 ^ 63 }
-    ensures put { HasCleanDisk (state S.Store conn.new)
-        → IsTrue (state S.Store conn.old).in_transaction
-        → (state S.Store conn.old).now.schema ≡ no_schema
-        → OnOk result (IsInside (state S.Store conn.old) (state S.Store conn.new)
-        × Holds (state S.Store conn.new) at (base.now ∷ [])) }
-    ensures crash { HasCleanDisk (state S.Store conn.new)
-        → IsTrue (state S.Store conn.old).in_transaction
-        → (state S.Store conn.old).now.schema ≡ no_schema
-        → (db : Trees) → (state S.Store conn.new).may_leave db
-        → (state S.Store conn.old).may_leave db }
-    ensures clean { HasCleanDisk (state S.Store conn.new) → HasCleanDisk (state S.Store conn.old) }
-{
-    make_table(conn)?;
-    append(conn, at, base)?;
+    if keeps_rows(conn.schema()) {
+        return move_rows(conn);
+    }
+    drop_steps(conn)?;
+    make_steps(conn)?;
     Ok(())
 }
 
-/// Drops all rows and puts this base in their place, at this position. After the call a crash leaves the rows from before, or the base alone.
-/// `false`: a transaction is open, and nothing is done. Fails with the database's error: the store is then to be opened again.
+/// Puts this base in the place of all rows, at this position, in one commit. A store that keeps rows moves them to its table of kept rows;
+/// another drops them. After the call a crash leaves the rows from before, or the base alone, and the kept rows accordingly. `false`: a
+/// transaction is open, and nothing is done. Fails with the database's error: the store is then to be opened again.
 pub fn replace_base<S: Alter>(
     conn: &mut Connection<S>,
     at: u64,
-    kept: &StoredRow,
+    base: &StoredRow,
 ) -> Result<bool, Error>
     requires fits { at < 2 ^ 63 }
     ensures replaced { HasCleanDisk (state S.Store conn.new) → (first : ℕ) (list : List Stored)
         → Holds (state S.Store conn.old) first list
         → IfOk result (λ done. IsTrue done
-        → Holds (state S.Store conn.new) at (kept.now ∷ [])
-        × LeavesOnly (state S.Store conn.new) at (kept.now ∷ [])) }
+        → Holds (state S.Store conn.new) at (base.now ∷ [])
+        × LeavesOnly (state S.Store conn.new) at (base.now ∷ [])) }
     ensures idle { HasCleanDisk (state S.Store conn.new) → (first : ℕ) (list : List Stored)
         → Holds (state S.Store conn.old) first list
         → IfOk result (λ done. IsTrue done → IsIdle (state S.Store conn.new)) }
@@ -93,15 +65,29 @@ pub fn replace_base<S: Alter>(
     ensures crash { HasCleanDisk (state S.Store conn.new) → (first : ℕ) (list : List Stored)
         → Holds (state S.Store conn.old) first list
         → (db : Trees) → (state S.Store conn.new).may_leave db
-        → (state S.Store conn.old).may_leave db ⊎ Lists (db 0) at (kept.now ∷ []) }
+        → (state S.Store conn.old).may_leave db ⊎ Lists (db 0) at (base.now ∷ []) }
+    // A store that keeps rows has them behind those that it kept, and the base alone in its table of steps.
+    ensures moved { HasCleanDisk (state S.Store conn.new) → (first : ℕ) (kept list : List Stored)
+        → HoldsAll (state S.Store conn.old) first kept list
+        → at ≡ first + length kept + length list
+        → IfOk result (λ done. IsTrue done
+        → HoldsAll (state S.Store conn.new) first (kept ++ list) (base.now ∷ [])
+        × LeavesAll (state S.Store conn.new) first (kept ++ list) (base.now ∷ [])) }
+    ensures moved_crash { HasCleanDisk (state S.Store conn.new)
+        → (first : ℕ) (kept list : List Stored)
+        → HoldsAll (state S.Store conn.old) first kept list
+        → at ≡ first + length kept + length list
+        → (db : Trees) → (state S.Store conn.new).may_leave db
+        → (state S.Store conn.old).may_leave db
+        ⊎ ListsAll db first (kept ++ list) (base.now ∷ []) }
     ensures clean { HasCleanDisk (state S.Store conn.new) → HasCleanDisk (state S.Store conn.old) }
 {
     if !conn.is_autocommit() {
         return Ok(false);
     }
     begin(conn)?;
-    drop_table(conn)?;
-    put_base(conn, at, kept)?;
+    clear_steps(conn)?;
+    append(conn, at, base)?;
     commit(conn)?;
     Ok(true)
 }

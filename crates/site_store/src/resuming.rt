@@ -1,5 +1,6 @@
 //! A site that goes on over its store.
-ghost use Rattle.std.specs.Prelude.{◌≡◌, ◌≢◌, ◌⊎◌, ◌≤◌, ◌<◌, ◌^◌, ◌+◌, ◌++◌, ◌∷◌, [], ℕ, List, false, length, Err, IfOk, IsTrue, OnOk};
+ghost use Rattle.std.specs.Prelude.{◌≡◌, ◌≢◌, ◌⊎◌, ◌≤◌, ◌<◌, ◌^◌, ◌+◌, ◌-◌, ◌++◌, ◌∷◌, [], ℕ, List};
+ghost use Rattle.std.specs.Prelude.{Err, IfOk, IsTrue, OnOk, drop, false, length, min, sum_by};
 ghost use Rattle.sqlite.specs.Held.{state};
 ghost use Rattle.sqlite.specs.State.{HasCleanDisk};
 ghost use Rattle.sqlite.specs.Tree.{Trees};
@@ -8,8 +9,8 @@ ghost use Rattle.stored_steps.specs.Restoring.{IsRestoredSite};
 ghost use Rattle.stored_steps.specs.StartRows.{start_row};
 ghost use Rattle.stored_steps.specs.Stored.{Stored};
 ghost use Rattle.site_store.specs.declared.open_fault.OpenFault.{OpenFault};
-ghost use Rattle.site_store.specs.Steps.{Holds, IsIdle, LeavesOnly, Lists, step_schema};
-ghost use Rattle.site_store.specs.Resumed.{IsRestoredAt, IsResumed};
+ghost use Rattle.site_store.specs.Steps.{Holds, IsIdle, IsStoreSchema, LeavesOnly, Lists};
+ghost use Rattle.site_store.specs.Resumed.{IsRestoredAt, IsResumed, body_bytes};
 
 use crate::OpenFault;
 use crate::open_fault::open_fault;
@@ -25,11 +26,45 @@ use stored_steps::{RestoredSite, StoreFault, StoredRow, restore};
 /// The last position that a row of a store may have, 2^63 - 1 (this project's own).
 pub const LAST_POSITION: u64 = (1 << 63) - 1;
 
+/// A site that goes on over its store.
+#[derive(Drop)]
+pub struct ResumedSite {
+    /// The site, its store's name, and how often it was started before.
+    pub site: RestoredSite,
+    /// The position of the next row.
+    pub next: u64,
+    /// How many rows the store has since its base, that of this start included.
+    pub rows: u64,
+    /// How many bytes the bodies of these rows have, at most 2^64 - 1.
+    pub bytes: u64,
+}
+
 // Why rows make no site, as the fault of an open.
 fn site_fault(fault: StoreFault) -> OpenFault {
     match fault {
         StoreFault::Memory => OpenFault::Memory,
         fault => OpenFault::Site(fault),
+    }
+}
+
+// How many bytes the bodies of rows have, at most 2^64 - 1.
+fn body_bytes(rows: &[StoredRow]) -> u64
+    ensures { result ≡ min (sum_by body_bytes rows.now) (2 ^ 64 - 1) }
+{
+    let mut bytes = 0u64;
+    for row in rows {
+        bytes = bytes.saturating_add(row.body().len() as u64);
+    }
+    bytes
+}
+
+// The same of all rows but the first.
+fn bytes_since_base(rows: &[StoredRow]) -> u64
+    ensures { result ≡ min (sum_by body_bytes (drop 1 rows.now)) (2 ^ 64 - 1) }
+{
+    match rows {
+        [] => 0,
+        [_, since @ ..] => body_bytes(since),
     }
 }
 
@@ -40,7 +75,7 @@ fn listed_rows<S: Alter>(alloc: Global, conn: &mut Connection<S>) -> Result<List
         → IfOk result (λ it. (it.first ≡ first) × (it.steps.items ≡ rows)) }
     // Whatever rows the connection holds, these are they.
     ensures found { HasCleanDisk (state S.Store conn.new)
-        → (state S.Store conn.old).now.schema ≡ step_schema
+        → IsStoreSchema (state S.Store conn.old).now.schema
         → IfOk result (λ it. Holds (state S.Store conn.old) it.first it.steps.items) }
     ensures holds { HasCleanDisk (state S.Store conn.new) → (first : ℕ) (rows : List Stored)
         → Holds (state S.Store conn.old) first rows
@@ -71,22 +106,22 @@ fn listed_rows<S: Alter>(alloc: Global, conn: &mut Connection<S>) -> Result<List
     Ok(listed)
 }
 
-// The site that the rows of a store make, and the position of the next row.
+// The site that the rows of a store make, before the row of its start is added.
 fn restore_rows<S: Alter>(
     alloc: Global,
     conn: &mut Connection<S>,
     site: SiteId,
     list: &QueueList,
     limit: u32,
-) -> Result<(RestoredSite, u64), OpenFault>
+) -> Result<ResumedSite, OpenFault>
     requires some { 1 ≤ limit }
     requires most { limit ≤ MOST_STEPS }
     ensures restored { HasCleanDisk (state S.Store conn.new) → (first : ℕ) (rows : List Stored)
         → Holds (state S.Store conn.old) first rows → rows ≢ []
-        → IfOk result (λ it. IsRestoredSite rows it.0 × (it.1 ≡ first + length rows)) }
+        → IfOk result (λ it. IsRestoredSite rows it.site × (it.next ≡ first + length rows)) }
     ensures found { HasCleanDisk (state S.Store conn.new)
-        → (state S.Store conn.old).now.schema ≡ step_schema
-        → IfOk result (λ it. IsRestoredAt (state S.Store conn.old) it.0 it.1) }
+        → IsStoreSchema (state S.Store conn.old).now.schema
+        → IfOk result (λ it. IsRestoredAt (state S.Store conn.old) it) }
     ensures holds { HasCleanDisk (state S.Store conn.new) → (first : ℕ) (rows : List Stored)
         → Holds (state S.Store conn.old) first rows
         → OnOk result (Holds (state S.Store conn.new) first rows) }
@@ -98,14 +133,16 @@ fn restore_rows<S: Alter>(
         → Holds (state S.Store conn.old) first rows
         → (db : Trees) → (state S.Store conn.new).may_leave db
         → (state S.Store conn.old).may_leave db }
-    ensures fits { IfOk result (λ it. it.1 < LAST_POSITION) }
-    ensures site { IfOk result (λ it. it.0.journal.replica.site ≡ site) }
-    ensures names { IfOk result (λ it. it.0.journal.replica.names ≡ list.now) }
-    ensures limit { IfOk result (λ it. it.0.journal.limit ≡ limit) }
+    ensures fits { IfOk result (λ it. it.next < LAST_POSITION) }
+    ensures site { IfOk result (λ it. it.site.journal.replica.site ≡ site) }
+    ensures names { IfOk result (λ it. it.site.journal.replica.names ≡ list.now) }
+    ensures limit { IfOk result (λ it. it.site.journal.limit ≡ limit) }
     ensures clean { HasCleanDisk (state S.Store conn.new) → HasCleanDisk (state S.Store conn.old) }
 {
     let listed = listed_rows(alloc, conn)?;
-    let next = listed.first + listed.steps.len() as u64;
+    let rows = listed.steps.len() as u64;
+    let next = listed.first + rows;
+    let bytes = bytes_since_base(listed.steps.as_slice());
     let restored = restore(
         alloc,
         site,
@@ -116,7 +153,12 @@ fn restore_rows<S: Alter>(
     );
     drop(listed);
     match restored {
-        Ok(site) => Ok((site, next)),
+        Ok(site) => Ok(ResumedSite {
+            site,
+            next,
+            rows,
+            bytes,
+        }),
         Err(fault) => Err(site_fault(fault)),
     }
 }
@@ -152,15 +194,6 @@ fn add_start<S: Alter>(alloc: Global, conn: &mut Connection<S>, at: u64) -> Resu
     }
 }
 
-/// A site that goes on over its store.
-#[derive(Drop)]
-pub struct ResumedSite {
-    /// The site, its store's name, and how often it was started before.
-    pub site: RestoredSite,
-    /// The position of the next row.
-    pub next: u64,
-}
-
 /// Builds a site again of the rows of its store, and adds the row of this start in a commit of its own. Its journal may have `limit` steps,
 /// 1 to 1,000,000.
 ///
@@ -182,7 +215,7 @@ pub fn resume<S: Alter>(
         × Holds (state S.Store conn.new) first (rows ++ start_row ∷ [])) }
     // Whatever rows the connection held, the site is that of these rows.
     ensures found { HasCleanDisk (state S.Store conn.new)
-        → (state S.Store conn.old).now.schema ≡ step_schema
+        → IsStoreSchema (state S.Store conn.old).now.schema
         → IfOk result (λ it. IsResumed (state S.Store conn.new) it) }
     ensures site { IfOk result (λ it. it.site.journal.replica.site ≡ site) }
     ensures names { IfOk result (λ it. it.site.journal.replica.names ≡ list.now) }
@@ -206,9 +239,19 @@ pub fn resume<S: Alter>(
     if !conn.is_autocommit() {
         return Err(OpenFault::InTransaction);
     }
-    let (site, at) = restore_rows(alloc, conn, site, list, limit)?;
+    let ResumedSite {
+        site,
+        next: at,
+        rows,
+        bytes,
+    } = restore_rows(alloc, conn, site, list, limit)?;
     match add_start(alloc, conn, at) {
-        Ok(()) => Ok(ResumedSite { site, next: at + 1 }),
+        Ok(()) => Ok(ResumedSite {
+            site,
+            next: at + 1,
+            rows,
+            bytes,
+        }),
         Err(fault) => {
             drop(site);
             Err(fault)

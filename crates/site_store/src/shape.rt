@@ -1,7 +1,8 @@
-//! Whether a schema is that of the table of steps.
+//! Whether a schema is that of a store.
 ghost use Rattle.std.specs.Prelude.{◌≡◌, ◌↔◌, IsTrue, [], ◌∷◌, Some, false};
 ghost use Rattle.site_store.specs.declared.shape.Shape.{Shape};
-ghost use Rattle.site_store.specs.Steps.{no_schema, step_column, step_schema, step_table};
+ghost use Rattle.site_store.specs.Steps.{IsStoreSchema, kept_schema, kept_table, no_schema};
+ghost use Rattle.site_store.specs.Steps.{row_table, step_column, step_schema, step_table};
 
 use sqlite_schema::schema::{Column, Kind, Schema, Stamps, Table};
 use sqlite_value::keys::Collation;
@@ -26,8 +27,8 @@ fn has_no_stamps(stamps: &Stamps) -> bool
     stamps.places.is_empty() && stamps.terms.roots.is_empty() && stamps.formats.is_empty()
 }
 
-// Whether columns are those of the table of steps.
-fn are_step_columns(columns: &[Column]) -> bool
+// Whether columns are those of a table of rows.
+fn are_row_columns(columns: &[Column]) -> bool
     ensures { IsTrue result ↔ (columns.now ≡ step_table.columns) }
 {
     match columns {
@@ -76,15 +77,29 @@ fn is_bare(table: &Table) -> bool
         && !table.is_counted
 }
 
+// Whether a table is one of rows, with this name, in this tree.
+fn is_row_table(table: &Table, name: &[u8], tree: u32) -> bool
+    ensures { IsTrue result ↔ (table.now ≡ row_table name.now tree) }
+{
+    table.name.as_slice() == name
+        && table.tree == tree
+        && are_row_columns(table.columns.as_slice())
+        && is_keyed(table)
+        && is_bare(table)
+}
+
 // Whether a table is that of steps.
 fn is_step_table(table: &Table) -> bool
     ensures { IsTrue result ↔ (table.now ≡ step_table) }
 {
-    table.name.as_slice() == b"step".as_slice()
-        && table.tree == 0
-        && are_step_columns(table.columns.as_slice())
-        && is_keyed(table)
-        && is_bare(table)
+    is_row_table(table, b"step".as_slice(), 0)
+}
+
+// Whether a table is that of kept rows.
+fn is_kept_table(table: &Table) -> bool
+    ensures { IsTrue result ↔ (table.now ≡ kept_table) }
+{
+    is_row_table(table, b"kept".as_slice(), 1)
 }
 
 /// Whether a schema has the table of steps, and nothing else (this project's own).
@@ -97,6 +112,28 @@ pub fn is_step_schema(schema: &Schema) -> bool
     }
 }
 
+/// Whether a schema has the tables of steps and of kept rows, and nothing else: the store keeps the rows in whose place a base is put.
+pub fn keeps_rows(schema: &Schema) -> bool
+    ensures { IsTrue result ↔ (schema.now ≡ kept_schema) }
+{
+    match schema.tables.as_slice() {
+        [steps, kept] => {
+            is_step_table(steps)
+                && is_kept_table(kept)
+                && schema.indexes.is_empty()
+                && schema.views.is_empty()
+        }
+        _ => false,
+    }
+}
+
+/// Whether a schema is that of a store, which keeps rows or not.
+pub fn is_store_schema(schema: &Schema) -> bool
+    ensures { IsTrue result ↔ IsStoreSchema schema.now }
+{
+    is_step_schema(schema) || keeps_rows(schema)
+}
+
 /// Whether a schema has nothing.
 pub fn is_blank_schema(schema: &Schema) -> bool
     ensures { IsTrue result ↔ (schema.now ≡ no_schema) }
@@ -104,20 +141,20 @@ pub fn is_blank_schema(schema: &Schema) -> bool
     schema.tables.is_empty() && schema.indexes.is_empty() && schema.views.is_empty()
 }
 
-// What a database may be: one with the table of steps and nothing else, or one without a table.
+// What a database may be: a store, or one without a table.
 #[derive(Clone, Copy)]
 pub(crate) enum Shape {
-    Steps,
+    Store,
     Blank,
 }
 
 // Whether a schema has this shape.
 pub(crate) fn has_shape(schema: &Schema, wanted: Shape) -> bool
-    ensures steps { wanted ≡ Shape.Steps → IsTrue result → schema.now ≡ step_schema }
+    ensures store { wanted ≡ Shape.Store → IsTrue result → IsStoreSchema schema.now }
     ensures blank { wanted ≡ Shape.Blank → IsTrue result → schema.now ≡ no_schema }
 {
     match wanted {
-        Shape::Steps => is_step_schema(schema),
+        Shape::Store => is_store_schema(schema),
         Shape::Blank => is_blank_schema(schema),
     }
 }

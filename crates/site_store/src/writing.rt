@@ -4,7 +4,8 @@ ghost use Rattle.sqlite.specs.Held.{state};
 ghost use Rattle.sqlite.specs.State.{HasCleanDisk};
 ghost use Rattle.sqlite.specs.Tree.{Trees};
 ghost use Rattle.stored_steps.specs.Stored.{Stored};
-ghost use Rattle.site_store.specs.Steps.{Holds, IsIdle, IsInside, LeavesOnly, Lists};
+ghost use Rattle.site_store.specs.Kept.{SparesKept};
+ghost use Rattle.site_store.specs.Steps.{Holds, IsIdle, IsInside, IsStoreSchema, LeavesOnly, Lists};
 
 use sqlite::{Alter, Connection, Error, params};
 use stored_steps::StoredRow;
@@ -48,6 +49,10 @@ pub fn append<S: Alter>(conn: &mut Connection<S>, at: u64, kept: &StoredRow) -> 
         → OnOk result (IsInside (state S.Store conn.old) (state S.Store conn.new))
         × ((db : Trees) → (state S.Store conn.new).may_leave db
         → (state S.Store conn.old).may_leave db) }
+    // The kept rows stay.
+    ensures spared { HasCleanDisk (state S.Store conn.new)
+        → IsStoreSchema (state S.Store conn.old).now.schema
+        → OnOk result (SparesKept (state S.Store conn.old) (state S.Store conn.new)) }
     ensures clean { HasCleanDisk (state S.Store conn.new) → HasCleanDisk (state S.Store conn.old) }
 {
     let position = stored_position(at);

@@ -6,6 +6,7 @@
 
 pub mod laws;
 mod ready_base;
+mod resuming;
 mod step_database;
 mod writing;
 

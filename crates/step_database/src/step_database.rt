@@ -9,11 +9,12 @@ ghost use Rattle.site_store.specs.Steps.{Holds};
 ghost use Rattle.step_database.specs.Databases.{Keeps, Stores};
 
 use crate::ready_base::ReadyBase;
+use crate::resuming::resume_site;
 use crate::writing::{append_rows, grown, put_base, rows_of_steps};
 use dots::{Memory, SiteId};
 use replica::{QueueList, Replica};
 use site_journal::{Journaled, Step};
-use site_store::{OpenFault, ResumedSite, is_step_schema};
+use site_store::{OpenFault, ResumedSite, is_store_schema};
 use sqlite::{Alter, Connection};
 use std::alloc::Global;
 use std::marker::Model;
@@ -74,38 +75,41 @@ impl<S: Alter + Drop> StepDatabase<S> {
         ensures keeps { HasCleanDisk (state S.Store result.0.conn)
             → Keeps (state S.Store result.0.conn) result.0.origin [] }
     {
-        let ResumedSite { site, next } = resumed;
+        let ResumedSite {
+            site,
+            next,
+            rows,
+            bytes,
+        } = resumed;
         let RestoredSite {
             journal,
             name,
             starts,
         } = site;
-        let growth = Growth {
-            rows: journal.len().saturating_add(1),
-            bytes: journal.payload_bytes(),
-        };
         let store = StepDatabase {
             conn,
             begun: Snapshot::of(journal.replica()),
             name,
             starts: starts.saturating_add(1),
             next,
-            growth,
+            growth: Growth { rows, bytes },
             alloc,
         };
         (store, journal)
     }
 
     /// The store of a site that goes on over a connection, and the site's journal, which may have `limit` steps, 1 to 1,000,000. The row of
-    /// this start is added, in a commit of its own.
+    /// this start is added, in a commit of its own. If `keeps`, the store keeps from then on the rows in whose place a base is put; else it
+    /// does so only if it has begun to.
     ///
-    /// Errors, in order: `NoStore`, if the database hasn't the one table of a store; those of `resume` of `site_store`.
+    /// Errors, in order: `NoStore`, if the database hasn't the tables of a store; those of `resume` and `keep_rows` of `site_store`.
     pub fn resume(
         alloc: Global,
         conn: Connection<S>,
         site: SiteId,
         list: &QueueList,
         limit: u32,
+        keeps: bool,
     ) -> Result<(StepDatabase<S>, Journaled), OpenFault>
         requires some { 1 ≤ limit }
         requires most { limit ≤ MOST_STEPS }
@@ -124,11 +128,11 @@ impl<S: Alter + Drop> StepDatabase<S> {
             → Keeps (state S.Store it.0.conn) it.0.origin []) }
     {
         let mut conn = conn;
-        if !is_step_schema(conn.schema()) {
+        if !is_store_schema(conn.schema()) {
             drop(conn);
             return Err(OpenFault::NoStore);
         }
-        match site_store::resume(alloc, &mut conn, site, list, limit) {
+        match resume_site(alloc, &mut conn, site, list, limit, keeps) {
             Ok(resumed) => Ok(StepDatabase::new(alloc, conn, resumed)),
             Err(fault) => {
                 drop(conn);

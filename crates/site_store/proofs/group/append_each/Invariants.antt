@@ -3,6 +3,7 @@ use Rattle.sqlite.specs.Held.{state}
 use Rattle.sqlite.specs.State.{HasCleanDisk}
 use Rattle.sqlite.specs.Tree.{Trees}
 use Rattle.stored_steps.specs.Stored.{Stored}
+use Rattle.site_store.specs.Kept.{SparesKept}
 use Rattle.site_store.specs.Steps.{Holds}
 use Rattle.site_store.proofs.group.append_each.Given as goal
 
@@ -12,4 +13,5 @@ invariant-loop-step g l =
     let now = state g.S.Store l.conn in
     (l.place ≡ l.fn.at + l.step-index) × (HasCleanDisk now → HasCleanDisk old)
     × (HasCleanDisk now → (first : ℕ) (list : List Stored) → Holds old first list → l.fn.at ≡ first + length list → IsTrue old.in_transaction → IsTrue old.is_open
-    → Holds now first (list ++ take l.step-index l.steps) × IsTrue now.in_transaction × IsTrue now.is_open × (now.committed ≡ old.committed) × ((db : Trees) → now.may_leave db → old.may_leave db))
+    → Holds now first (list ++ take l.step-index l.steps) × IsTrue now.in_transaction × IsTrue now.is_open × (now.committed ≡ old.committed) × ((db : Trees) → now.may_leave db → old.may_leave db)
+    × SparesKept old now)

@@ -11,4 +11,4 @@ pub returns-clause-opened : goal.returns-clause-opened
 returns-clause-opened g c = c.open_file.ensures.opened
 
 pub returns-clause-schema : goal.returns-clause-schema
-returns-clause-schema g c = c.open_file.ensures.steps refl
+returns-clause-schema g c = c.open_file.ensures.store refl

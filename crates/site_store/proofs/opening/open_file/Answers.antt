@@ -27,15 +27,15 @@ pub returns-in-Ok-clause-sums : goal.returns-in-Ok-clause-sums
 returns-in-Ok-clause-sums g c = of_same c.with_shape.result c.in-Ok.conn _ c.in-Ok.ensures.sums c.with_shape.ensures.same
 
 pub returns-in-Ok-clause-holds : goal.returns-in-Ok-clause-holds
-returns-in-Ok-clause-holds g c steps = of_both c.with_shape.result _ _ _
+returns-in-Ok-clause-holds g c store = of_both c.with_shape.result _ _ _
     (λ it schema held clean db first rows holds lists. record { schema = schema; rows = subst (λ listed. Lists listed first rows) (held clean db holds) lists })
-    (c.with_shape.ensures.steps steps)
+    (c.with_shape.ensures.store store)
     (of_same c.with_shape.result c.in-Ok.conn (λ it. HasCleanDisk (file_state it) → (db : Trees) → HoldsDatabase (image_at g.S.Start) db → db 0 ≡ (file_state it).now.trees 0)
     (λ clean db holds. sym (ap (λ (d : Database). d.trees 0) (c.in-Ok.ensures.opened clean).0.clean ∙ ap (λ (t : Trees). t 0) ((c.in-Ok.ensures.found clean).holds db holds)))
     c.with_shape.ensures.same)
 
-pub returns-in-Ok-clause-steps : goal.returns-in-Ok-clause-steps
-returns-in-Ok-clause-steps g c = c.with_shape.ensures.steps
+pub returns-in-Ok-clause-store : goal.returns-in-Ok-clause-store
+returns-in-Ok-clause-store g c = c.with_shape.ensures.store
 
 pub returns-in-Ok-clause-blank : goal.returns-in-Ok-clause-blank
 returns-in-Ok-clause-blank g c = c.with_shape.ensures.blank

@@ -70,6 +70,7 @@ returns-in-Ok-clause-found g c clean schema =
       rows = was.rows;
       restored = was.restored;
       next_is = ap (λ (n : ℕ). n + 1) was.next_is;
+      counts = record { rows_are = was.counts.rows_are; bytes_are = was.counts.bytes_are };
       holds = c.in-Ok.ensures.added clean was.first was.rows there was.next_is;
       leaves = c.in-Ok.ensures.durable clean was.first was.rows there was.next_is (c.in_ok-site.ensures.mode read was.first was.rows was.holds ∙ outside);
     }

@@ -1,12 +1,10 @@
-use Rattle.std.proofs.Common.{◌≡◌, rules, inl, inr, pos, [], ◌∷◌, ap, ap₂, ◌∙◌}
-use Rattle.sqlite.specs.declared.types.Value.{Value}
+use Rattle.std.proofs.Common.{◌≡◌, rules, inl, inr, pos, ap, ◌∙◌}
 use Rattle.sqlite.specs.declared.types.Value.TheVariants.{Int, Blob}
-use Rattle.sqlite.specs.Order.{Row}
 use Rattle.sqlite.specs.Value.{owned}
 use Rattle.sqlite.specs.Values.{bound_value}
 use Rattle.sqlite.specs.Held.{state}
 use Rattle.site_store.proofs.RowLemmas.{all_same}
-use Rattle.site_store.proofs.WriteLemmas.{holds_added, holds_kept, idle_added, leaves_added, commits_added, stays_inside, commits_nothing_inside}
+use Rattle.site_store.proofs.WriteLemmas.{holds_added, holds_kept, idle_added, leaves_added, commits_added, spares_added, stays_inside, commits_nothing_inside}
 use Rattle.site_store.proofs.writing.append.Goals as goal
 
 pub returns-clause-added : goal.returns-clause-added
@@ -78,3 +76,14 @@ returns-clause-inside g c clean first list holds inside =
         | inr commits ↦ absurd (commits_nothing_inside old c.args.at c.args.kept.now words db _ same holds.schema inside commits)
       ],
     )
+
+pub returns-clause-spared : goal.returns-clause-spared
+returns-clause-spared g c clean has =
+    let one : bound_value (owned c.params-to_sql.result) ≡ Int (pos c.args.at) = search rules in
+    let two = ap bound_value (c.params-to_sql-2.ensures ∙ ap (λ k. Int (pos k)) c.pass.ensures) in
+    let three = ap bound_value (c.params-to_sql-3.ensures ∙ ap (λ k. Int (pos k)) c.kind.ensures) in
+    let four = ap bound_value (c.params-to_sql-4.ensures ∙ ap Blob c.body.ensures) in
+    let words = c.words.result.now in
+    let five = ap bound_value c.params-to_sql-5.ensures in
+    let same = all_same one two three four five in
+    spares_added (state g.S.Store c.args.conn.now) (state g.S.Store c.execute.new.self) c.args.at c.args.kept.now words c.execute.result _ same (c.execute.ensures.runs clean) has

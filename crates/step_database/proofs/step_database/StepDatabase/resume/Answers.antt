@@ -1,18 +1,18 @@
-use Rattle.std.proofs.Common.{◌≡◌, ◌∙◌, ◌++◌, ◌∷◌, [], rules, sym, subst, IsTrue}
+use Rattle.std.proofs.Common.{◌++◌, ◌∷◌, [], rules, sym, subst, IsTrue}
 use Rattle.sqlite.specs.Held.{state}
 use Rattle.sqlite.specs.State.{HasCleanDisk}
 use Rattle.stored_steps.specs.StartRows.{start_row}
-use Rattle.site_store.specs.Steps.{Holds, step_schema}
+use Rattle.site_store.specs.Steps.{Holds, IsStoreSchema}
 use Rattle.step_database.proofs.step_database.StepDatabase.resume.Goals as goal
 
 pub new-requires : goal.new-requires
 new-requires g c =
-    let passed : IsTrue c.is_step_schema.result = search rules in
-    let schema : (state g.S.Store c.args.conn).now.schema ≡ step_schema = sym c.schema.ensures.value ∙ c.is_step_schema.ensures.0 passed in
+    let passed : IsTrue c.is_store_schema.result = search rules in
+    let schema : IsStoreSchema (state g.S.Store c.args.conn).now.schema = subst IsStoreSchema c.schema.ensures.value (c.is_store_schema.ensures.0 passed) in
     record { resumed = λ clean. c.in-Ok.ensures.found clean schema }
 
 pub returns-in-Ok-clause-rows : goal.returns-in-Ok-clause-rows
 returns-in-Ok-clause-rows g c clean first rows holds some =
     let same = c.new.ensures.conn in
     let late = subst (λ h. HasCleanDisk (state g.S.Store h)) same clean in
-    subst (λ h. Holds (state g.S.Store h) first (rows ++ start_row ∷ [])) (sym same) (c.in-Ok.ensures.resumed late first rows holds some).2
+    subst (λ h. Holds (state g.S.Store h) first (rows ++ start_row ∷ [])) (sym same) (c.in-Ok.ensures.rows late first rows holds some)

@@ -1,0 +1,106 @@
+//! All rows of a store, with those in whose place a base was put.
+ghost use Rattle.std.specs.Prelude.{◌≡◌, ◌≢◌, ◌++◌, [], ℕ, List, IfOk, IfSome, OnOk, map};
+ghost use Rattle.std.specs.List.Sorted.{IsPermutation};
+ghost use Rattle.sqlite.specs.Held.{state};
+ghost use Rattle.sqlite.specs.State.{HasCleanDisk, IsUnchanged};
+ghost use Rattle.sqlite.specs.Tree.{Trees};
+ghost use Rattle.stored_steps.specs.Stored.{Stored};
+ghost use Rattle.site_store.specs.Kept.{AreOfBoth, HoldsAll, IsHistory};
+ghost use Rattle.site_store.specs.Steps.{IsStoreSchema, Lists, kept_schema, shown, step_schema};
+
+use crate::reading::{Listed, listed_from, query_rows, read_all};
+use crate::shape::keeps_rows;
+use sqlite::{Alter, Connection, Error, Row};
+use std::alloc::Global;
+
+// All rows of the table of kept rows, as they are shown.
+fn query_kept<S: Alter>(conn: &mut Connection<S>) -> Result<Vec<Row>, Error>
+    ensures listed { HasCleanDisk (state S.Store conn.new)
+        → (state S.Store conn.old).now.schema ≡ kept_schema
+        → IfOk result (λ rows.
+        IsPermutation (map shown ((state S.Store conn.old).now.trees 1)) rows.items) }
+    ensures same { HasCleanDisk (state S.Store conn.new)
+        → (state S.Store conn.old).now.schema ≡ kept_schema
+        → OnOk result (IsUnchanged (state S.Store conn.old) (state S.Store conn.new)) }
+    ensures crash { HasCleanDisk (state S.Store conn.new)
+        → (state S.Store conn.old).now.schema ≡ kept_schema
+        → (db : Trees) → (state S.Store conn.new).may_leave db
+        → (state S.Store conn.old).may_leave db }
+    ensures clean { HasCleanDisk (state S.Store conn.new) → HasCleanDisk (state S.Store conn.old) }
+{
+    let rows = conn.query_all(
+        "SELECT position, pass, kind, body FROM kept ORDER BY position",
+        &[],
+    )?;
+    Ok(rows)
+}
+
+// All rows of both tables, as they are shown: first those of the table of kept rows.
+fn query_both<S: Alter>(conn: &mut Connection<S>) -> Result<Vec<Row>, Error>
+    ensures listed { HasCleanDisk (state S.Store conn.new)
+        → (state S.Store conn.old).now.schema ≡ kept_schema
+        → IfOk result (λ rows. AreOfBoth (state S.Store conn.old).now.trees rows.items) }
+    ensures same { HasCleanDisk (state S.Store conn.new)
+        → (state S.Store conn.old).now.schema ≡ kept_schema
+        → OnOk result (IsUnchanged (state S.Store conn.old) (state S.Store conn.new)) }
+    ensures crash { HasCleanDisk (state S.Store conn.new)
+        → (state S.Store conn.old).now.schema ≡ kept_schema
+        → (db : Trees) → (state S.Store conn.new).may_leave db
+        → (state S.Store conn.old).may_leave db }
+    ensures clean { HasCleanDisk (state S.Store conn.new) → HasCleanDisk (state S.Store conn.old) }
+{
+    let mut kept = query_kept(conn)?;
+    let mut rows = match query_rows(conn) {
+        Ok(rows) => rows,
+        Err(error) => {
+            drop(kept);
+            return Err(error);
+        }
+    };
+    let joined = kept.append(&mut rows);
+    drop(rows);
+    match joined {
+        Ok(()) => Ok(kept),
+        Err(error) => {
+            drop(kept);
+            Err(Error::from(error))
+        }
+    }
+}
+
+/// All rows that a store has, in the order of their positions: where the store keeps rows those in whose place a base was put, and then
+/// those of the table of steps. `None` where a position is missing between two rows. Fails with the database's error.
+pub fn read_history<S: Alter>(
+    alloc: Global,
+    conn: &mut Connection<S>,
+) -> Result<Option<Listed>, Error>
+    ensures listed { HasCleanDisk (state S.Store conn.new) → (first : ℕ) (kept list : List Stored)
+        → HoldsAll (state S.Store conn.old) first kept list → list ≢ []
+        → IfOk result (λ found. IfSome found
+        (λ it. (it.first ≡ first) × (it.steps.items ≡ kept ++ list))) }
+    // Whatever rows a store that keeps rows has, these are they.
+    ensures found { HasCleanDisk (state S.Store conn.new)
+        → (state S.Store conn.old).now.schema ≡ kept_schema
+        → IfOk result (λ found. IfSome found
+        (λ it. IsHistory (state S.Store conn.old).now.trees it.first it.steps.items)) }
+    // Another store has the table of steps alone.
+    ensures bare { HasCleanDisk (state S.Store conn.new)
+        → (state S.Store conn.old).now.schema ≡ step_schema
+        → IfOk result (λ found. IfSome found
+        (λ it. Lists ((state S.Store conn.old).now.trees 0) it.first it.steps.items)) }
+    ensures same { HasCleanDisk (state S.Store conn.new)
+        → IsStoreSchema (state S.Store conn.old).now.schema
+        → OnOk result (IsUnchanged (state S.Store conn.old) (state S.Store conn.new)) }
+    // A read commits nothing.
+    ensures crash { HasCleanDisk (state S.Store conn.new)
+        → IsStoreSchema (state S.Store conn.old).now.schema
+        → (db : Trees) → (state S.Store conn.new).may_leave db
+        → (state S.Store conn.old).may_leave db }
+    ensures clean { HasCleanDisk (state S.Store conn.new) → HasCleanDisk (state S.Store conn.old) }
+{
+    if !keeps_rows(conn.schema()) {
+        return read_all(alloc, conn);
+    }
+    let rows = query_both(conn)?;
+    listed_from(alloc, rows.as_slice())
+}
