@@ -17,7 +17,7 @@ use dots::{Memory, SiteId};
 use replica::{QueueList, Replica};
 use site_journal::MOST_STEPS;
 use site_store::{OpenFault, open, open_new};
-use sqlite::{Alter, Connection, Start, Unknown};
+use sqlite::{Alter, Connection, Start};
 use std::alloc::Global;
 use std::fs;
 use std::random::RandomSource;
@@ -44,13 +44,16 @@ fn resume_connection<S: Alter + Drop>(
     site: SiteId,
     list: &QueueList,
     limit: u32,
+    keeps: bool,
     is_new: bool,
-) -> Result<SiteFile<S>, OpenFault>
+) -> Result<SiteFile<StepDatabase<S>>, OpenFault>
     requires some { 1 ≤ limit }
     requires most { limit ≤ MOST_STEPS }
     ensures site { IfOk result (λ it. it.replica.site ≡ site) }
     ensures names { IfOk result (λ it. it.replica.names ≡ list.now) }
     ensures begun { IfOk result (λ it. IsSameSite it.store.origin.begun it.replica) }
+    ensures name { IfOk result (λ it. it.name ≡ it.store.origin.name) }
+    ensures starts { IfOk result (λ it. it.starts ≡ it.store.origin.starts) }
     ensures rows { IfOk result (λ it. HasCleanDisk (state S.Store it.store.conn)
         → (first : ℕ) (rows : List Stored)
         → Holds (state S.Store conn) first rows → rows ≢ []
@@ -62,13 +65,16 @@ fn resume_connection<S: Alter + Drop>(
     ensures keeps { IfOk result (λ it. HasCleanDisk (state S.Store it.store.conn)
         → Keeps (state S.Store it.store.conn) it.store.origin []) }
 {
-    let (store, journal) = StepDatabase::resume(alloc, conn, site, list, limit)?;
+    let (store, journal) = StepDatabase::resume(alloc, conn, site, list, limit, keeps)?;
     let replica = journal.replica().copy();
     drop(journal);
+    let (name, starts) = (*store.name(), store.starts());
     match replica {
         Ok(replica) => Ok(SiteFile {
             store,
             replica,
+            name,
+            starts,
             is_new,
         }),
         Err(_) => {
@@ -79,10 +85,11 @@ fn resume_connection<S: Alter + Drop>(
 }
 
 /// The site whose store is the file at a path, with these queues. The row of this start is added, in a commit of its own. While the
-/// store's steps are done again `limit` of them are in memory, 1 to 1,000,000.
+/// store's steps are done again `limit` of them are in memory, 1 to 1,000,000. If `keeps`, the store keeps from then on the rows in whose
+/// place a base is put; a store that has begun to keep rows goes on.
 ///
 /// Errors, in order: those of `open` of `site_store`, of which `Blank` leaves a file without a table where none was; those of `resume`
-/// of `site_store`, at which the rows stay. `Memory` may stand in place of each but `InUse` and `CannotOpen`.
+/// and `keep_rows` of `site_store`, at which the rows stay. `Memory` may stand in place of each but `InUse` and `CannotOpen`.
 pub fn resume_site_file<S: Start>(
     rt: &HostRuntime,
     path: &str,
@@ -90,12 +97,15 @@ pub fn resume_site_file<S: Start>(
     site: SiteId,
     list: &QueueList,
     limit: u32,
+    keeps: bool,
 ) -> Result<OpenedFile<S>, OpenFault>
     requires some { 1 ≤ limit }
     requires most { limit ≤ MOST_STEPS }
     ensures site { IfOk result (λ it. it.replica.site ≡ site) }
     ensures names { IfOk result (λ it. it.replica.names ≡ list.now) }
     ensures begun { IfOk result (λ it. IsSameSite it.store.origin.begun it.replica) }
+    ensures name { IfOk result (λ it. it.name ≡ it.store.origin.name) }
+    ensures starts { IfOk result (λ it. it.starts ≡ it.store.origin.starts) }
     // The store has the rows that the file held, and then that of this start.
     ensures rows { IfOk result (λ it. HasCleanDisk (file_state it.store.conn)
         → (db : Trees) (first : ℕ) (rows : List Stored)
@@ -107,7 +117,7 @@ pub fn resume_site_file<S: Start>(
         → Keeps (file_state it.store.conn) it.store.origin []) }
 {
     let conn = open(rt, path, start)?;
-    resume_connection(rt.alloc(), conn, site, list, limit, false)
+    resume_connection(rt.alloc(), conn, site, list, limit, keeps, false)
 }
 
 // The row of the base of a new site with these queues, over a store that has this name and was never started.
@@ -124,10 +134,10 @@ fn new_base(
 }
 
 /// Makes the store of a new site, with these queues, in a file at a path that is missing or has no table yet. The store's name is 16 random
-/// bytes. The row of this start is added, in a commit of its own.
+/// bytes. The row of this start is added, in a commit of its own. `keeps` is as `resume_site_file` has it.
 ///
 /// Errors, in order: `NoName`; `Open`, with the errors of `open_new` of `site_store`, or, if the file fails thereafter, those of `resume`
-/// of `site_store`. `Open` with `Memory` may stand in place of each.
+/// and `keep_rows` of `site_store`. `Open` with `Memory` may stand in place of each.
 pub fn new_site_file<S: Start>(
     rt: &HostRuntime,
     path: &str,
@@ -135,12 +145,15 @@ pub fn new_site_file<S: Start>(
     site: SiteId,
     list: &QueueList,
     limit: u32,
+    keeps: bool,
 ) -> Result<OpenedFile<S>, SiteFileFault>
     requires some { 1 ≤ limit }
     requires most { limit ≤ MOST_STEPS }
     ensures site { IfOk result (λ it. it.replica.site ≡ site) }
     ensures names { IfOk result (λ it. it.replica.names ≡ list.now) }
     ensures begun { IfOk result (λ it. IsSameSite it.store.origin.begun it.replica) }
+    ensures name { IfOk result (λ it. it.name ≡ it.store.origin.name) }
+    ensures starts { IfOk result (λ it. it.starts ≡ it.store.origin.starts) }
     ensures holds { IfOk result (λ it. HasCleanDisk (file_state it.store.conn)
         → Stores (file_state it.store.conn) it.store.origin it.store.next []) }
     ensures keeps { IfOk result (λ it. HasCleanDisk (file_state it.store.conn)
@@ -158,7 +171,7 @@ pub fn new_site_file<S: Start>(
     let opened = open_new(rt, path, start, 0, &base);
     drop(base);
     match opened {
-        Ok(conn) => match resume_connection(rt.alloc(), conn, site, list, limit, true) {
+        Ok(conn) => match resume_connection(rt.alloc(), conn, site, list, limit, keeps, true) {
             Ok(file) => Ok(file),
             Err(fault) => Err(SiteFileFault::Open(fault)),
         },
@@ -186,69 +199,81 @@ fn remove_files(rt: &HostRuntime, path: &str, log: &str) {
 }
 
 // The site whose store is the file at a path, which exists.
-fn open_old_file(
+fn open_old_file<S: Start>(
     rt: &HostRuntime,
     path: &str,
+    start: S,
     site: SiteId,
     list: &QueueList,
     limit: u32,
-) -> Result<OpenedFile<Unknown>, OpenFault>
+    keeps: bool,
+) -> Result<OpenedFile<S>, OpenFault>
     requires some { 1 ≤ limit }
     requires most { limit ≤ MOST_STEPS }
     ensures site { IfOk result (λ it. it.replica.site ≡ site) }
     ensures names { IfOk result (λ it. it.replica.names ≡ list.now) }
     ensures begun { IfOk result (λ it. IsSameSite it.store.origin.begun it.replica) }
+    ensures name { IfOk result (λ it. it.name ≡ it.store.origin.name) }
+    ensures starts { IfOk result (λ it. it.starts ≡ it.store.origin.starts) }
     ensures holds { IfOk result (λ it. HasCleanDisk (file_state it.store.conn)
         → Stores (file_state it.store.conn) it.store.origin it.store.next []) }
     ensures keeps { IfOk result (λ it. HasCleanDisk (file_state it.store.conn)
         → Keeps (file_state it.store.conn) it.store.origin []) }
 {
     if is_empty(rt, path) {
+        drop(start);
         return Err(OpenFault::NoStore);
     }
-    match resume_site_file(rt, path, Unknown, site, list, limit) {
+    match resume_site_file(rt, path, start, site, list, limit, keeps) {
         Err(OpenFault::Blank) => Err(OpenFault::NoStore),
         other => other,
     }
 }
 
 /// The site whose store is the file at a path, with these queues, as `resume_site_file` has it. Where neither the file nor its log (`PATH-wal`) is
-/// there, it makes a new site in that file, as `new_site_file` does. It supposes that a torn write leaves each byte of the file old or new.
+/// there, it makes a new site in that file, as `new_site_file` does.
 ///
 /// Errors, in order: `Open` with `NoStore`, if only the log is there, or the file has no bytes or no table: it may have been a store, and a new
 /// site of its number would make dots that others have; `Open`, with the errors of `resume_site_file` except `Blank`; those of
 /// `new_site_file`, and if the database failed the new files are removed. `Open` with `Memory` may stand in place of each. A store that is
 /// refused keeps its rows.
-pub fn open_site_file(
+pub fn open_site_file<S: Start>(
     rt: &HostRuntime,
     path: &str,
+    start: S,
     site: SiteId,
     list: &QueueList,
     limit: u32,
-) -> Result<OpenedFile<Unknown>, SiteFileFault>
+    keeps: bool,
+) -> Result<OpenedFile<S>, SiteFileFault>
     requires some { 1 ≤ limit }
     requires most { limit ≤ MOST_STEPS }
     ensures site { IfOk result (λ it. it.replica.site ≡ site) }
     ensures names { IfOk result (λ it. it.replica.names ≡ list.now) }
     ensures begun { IfOk result (λ it. IsSameSite it.store.origin.begun it.replica) }
+    ensures name { IfOk result (λ it. it.name ≡ it.store.origin.name) }
+    ensures starts { IfOk result (λ it. it.starts ≡ it.store.origin.starts) }
     ensures holds { IfOk result (λ it. HasCleanDisk (file_state it.store.conn)
         → Stores (file_state it.store.conn) it.store.origin it.store.next []) }
     ensures keeps { IfOk result (λ it. HasCleanDisk (file_state it.store.conn)
         → Keeps (file_state it.store.conn) it.store.origin []) }
 {
     if !is_missing(rt, path) {
-        return match open_old_file(rt, path, site, list, limit) {
+        return match open_old_file(rt, path, start, site, list, limit, keeps) {
             Ok(file) => Ok(file),
             Err(fault) => Err(SiteFileFault::Open(fault)),
         };
     }
     let Ok(log) = log_of(rt.alloc(), path) else {
+        drop(start);
         return Err(SiteFileFault::Open(OpenFault::Memory));
     };
     if !is_missing(rt, log.as_str()) {
+        drop(log);
+        drop(start);
         return Err(SiteFileFault::Open(OpenFault::NoStore));
     }
-    let made = new_site_file(rt, path, Unknown, site, list, limit);
+    let made = new_site_file(rt, path, start, site, list, limit, keeps);
     if let Err(SiteFileFault::Open(OpenFault::Database(_))) = made {
         remove_files(rt, path, log.as_str());
     }

@@ -1,17 +1,22 @@
 use replica::Replica;
-use sqlite::{Alter, FileFrom, FileStore};
+use sqlite::{FileFrom, FileStore};
 use step_database::StepDatabase;
+use stored_steps::NAME_BYTES;
 
 /// A site that goes on over its store (this project's own).
 #[derive(Drop)]
-pub struct SiteFile<S: Alter + Drop> {
+pub struct SiteFile<D: Drop> {
     /// The site's store, which has no step since this start.
-    pub store: StepDatabase<S>,
+    pub store: D,
     /// What the site says before its first step.
     pub replica: Replica,
+    /// The bytes that name the store for ever.
+    pub name: [u8; NAME_BYTES],
+    /// How often the site was started over the store, this start included; at most 2^64 - 1.
+    pub starts: u64,
     /// Whether this start has made the store.
     pub is_new: bool,
 }
 
-/// The store of a site in a file.
-pub type OpenedFile<S> = SiteFile<FileStore<FileFrom<S>>>;
+/// A site that goes on over a file.
+pub type OpenedFile<S> = SiteFile<StepDatabase<FileStore<FileFrom<S>>>>;

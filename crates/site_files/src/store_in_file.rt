@@ -1,0 +1,37 @@
+ghost use Rattle.std.specs.Prelude.{◌≡◌, ◌≤◌, [], IfOk};
+ghost use Rattle.replica.specs.Site.{IsSameSite};
+ghost use Rattle.site_journal.specs.declared.journaled.TheConstants.{MOST_STEPS};
+
+use crate::{SiteFile, SiteFileFault};
+use dots::SiteId;
+use replica::QueueList;
+use stored_desk::StepStore;
+
+/// Where a store is, or the folder of several, and whether a store keeps the rows in whose place a base is put.
+#[derive(Clone, Copy)]
+pub struct StorePath<'a> {
+    /// The path of the file, or of the folder.
+    pub path: &'a str,
+    /// Whether a store begins to keep rows, if it doesn't yet.
+    pub keeps: bool,
+}
+
+/// A store of a site that lies in a file (this project's own).
+pub trait StoreInFile: StepStore {
+    /// The site whose store is the file `place`, with these queues, and a new site where no file is. While the store's steps are done
+    /// again `limit` of them are in memory, 1 to 1,000,000. Errors are those of `open_site_file`.
+    fn open_site(
+        rt: &HostRuntime,
+        place: StorePath<'_>,
+        site: SiteId,
+        list: &QueueList,
+        limit: u32,
+    ) -> Result<SiteFile<Self>, SiteFileFault>
+        requires some { 1 ≤ limit }
+        requires most { limit ≤ MOST_STEPS }
+        ensures site { IfOk result (λ it. it.replica.site ≡ site) }
+        ensures names { IfOk result (λ it. it.replica.names ≡ list.now) }
+        ensures begun { IfOk result (λ it. IsSameSite (Self.begun it.store) it.replica) }
+        ensures holds { IfOk result (λ it. Self.holds it.store []) }
+        ensures keeps { IfOk result (λ it. Self.keeps it.store []) };
+}

@@ -1,0 +1,297 @@
+//! One site that is linked to others.
+ghost use Rattle.std.specs.Prelude.{◌≡◌, ◌↔◌, ◌≤◌, [], IfErr, IfOk, IsErrOf, OnOk, false, length, true};
+ghost use Rattle.std.specs.Prelude.{vec_len};
+ghost use Rattle.std.specs.Io.KnownBytes.{Appends};
+ghost use Rattle.std.specs.declared.net.socket_addr.SocketAddr.{SocketAddr};
+ghost use Rattle.replica.specs.Deeds.{IsNew};
+ghost use Rattle.replica.specs.Site.{IsSameSite};
+ghost use Rattle.linked_site.specs.declared.link_settings.TheConstants.{MOST_PEERS};
+ghost use Rattle.linked_site.specs.declared.tasks.TheConstants.{MOST_PLACES};
+ghost use Rattle.site_service.specs.Addresses.{address_lines};
+ghost use Rattle.site_service.specs.Refusals.{IsRefusal};
+
+use crate::addresses::write_addresses;
+use crate::links::{links_of, links_without_store};
+use crate::opening::open_site;
+use crate::{EndReason, LinkedRequest, Listeners, MOST_PEERS, MOST_PLACES, ServiceFault};
+use ami_text::Sink;
+use event_log::EventLog;
+use linked_site::{LinkSettings, LinkedSiteFault, serve_linked_site, serve_stored_linked_site};
+use replica::Replica;
+use site_files::{SiteFile, StoreInFile, StorePath};
+use std::alloc::Global;
+use std::net::{Net, TcpListener, TcpStream};
+use std::random::RandomSource;
+use std::sync::{Arc, Wait};
+use std::thread::Threads;
+use std::time::Clock;
+
+// The site whose store is this file, and how it is linked.
+fn linked_file<D: StoreInFile, R: Wait>(
+    rt: &R,
+    host: &HostRuntime,
+    request: &LinkedRequest<'_>,
+    place: StorePath<'_>,
+    events: &EventLog,
+) -> Result<(SiteFile<D>, LinkSettings), ServiceFault>
+    ensures begun { IfOk result (λ it. IsSameSite (D.begun it.0.store) it.0.replica) }
+    ensures holds { IfOk result (λ it. D.holds it.0.store []) }
+    ensures keeps { IfOk result (λ it. D.keeps it.0.store []) }
+    ensures peers { IfOk result (λ it. vec_len it.1.peers ≡ length request.now.peers.now) }
+    ensures fault { IfErr result IsRefusal }
+{
+    let file = match open_site(rt, host, place, request.site, request.list, events) {
+        Ok(file) => file,
+        Err(fault) => return Err(fault),
+    };
+    match links_of(host.alloc(), request, file.name, file.starts) {
+        Ok(links) => Ok((file, links)),
+        Err(_) => {
+            drop(file);
+            Err(ServiceFault::Memory)
+        }
+    }
+}
+
+// Serves a site over its store until it ends.
+fn serve_file<
+    R: Net<Listener = TcpListener, Stream = TcpStream>
+        + Threads
+        + Wait
+        + Clock
+        + RandomSource
+        + Sync,
+    D: StoreInFile + Send,
+>(
+    rt: &R,
+    alloc: Global,
+    request: &LinkedRequest<'_>,
+    file: SiteFile<D>,
+    links: LinkSettings,
+    listeners: Listeners,
+    sessions: Option<u32>,
+    events: &Arc<EventLog, Global>,
+) -> Result<EndReason, LinkedSiteFault>
+where
+    D::Group: Send,
+    D::Base: Send,
+    requires places { request.now.places ≤ MOST_PLACES }
+    requires peers { vec_len links.peers ≤ MOST_PEERS }
+    requires begun { IsSameSite (D.begun file.store) file.replica }
+    requires holds { D.holds file.store [] }
+    requires keeps { D.keeps file.store [] }
+{
+    let SiteFile { store, replica, .. } = file;
+    let Listeners {
+        clients,
+        links: heard,
+    } = listeners;
+    match serve_stored_linked_site::<R, D>(
+        rt,
+        alloc,
+        request.session,
+        request.places,
+        links,
+        replica,
+        store,
+        clients,
+        heard,
+        sessions,
+        events,
+    ) {
+        Ok(end) => {
+            let reason = end.reason;
+            drop(end);
+            Ok(reason)
+        }
+        Err(fault) => Err(fault),
+    }
+}
+
+/// Serves one site over the store in the file `place` until it ends, as `serve_stored_linked_site` of `linked_site` does, and returns why
+/// it has ended. The store is opened first; if its file is missing it is made, with a line in `events`. The log then has two lines, as
+/// `listening clients 127.0.0.1:5038` and `listening links 127.0.0.1:7038`, and nothing more.
+///
+/// Errors, in order: 1 `Store`, with the path and the cause, and `Memory`; the log is as it was; 2 `Linked` with `NoAddress`, if the system
+/// doesn't say where the site listens; 3 `Write`, if the log failed, or took no bytes; 4 `Linked`, with the errors of
+/// `serve_stored_linked_site`.
+pub fn serve_linked_file<
+    R: Net<Listener = TcpListener, Stream = TcpStream>
+        + Threads
+        + Wait
+        + Clock
+        + RandomSource
+        + Sync,
+    D: StoreInFile + Send,
+    W: Sink,
+>(
+    rt: &R,
+    host: &HostRuntime,
+    request: &LinkedRequest<'_>,
+    place: StorePath<'_>,
+    listeners: Listeners,
+    sessions: Option<u32>,
+    log: &mut W,
+    events: &Arc<EventLog, Global>,
+) -> Result<EndReason, ServiceFault>
+where
+    D::Group: Send,
+    D::Base: Send,
+    requires places { request.now.places ≤ MOST_PLACES }
+    requires peers { length request.now.peers.now ≤ MOST_PEERS }
+    requires log { W.failed log.old ≡ false }
+    ensures written { OnOk result ((clients : SocketAddr) × (links : SocketAddr)
+        × Appends (W.taken log.old) (W.taken log.new) (address_lines clients links)) }
+    ensures refused { IfErr result (λ fault. IsRefusal fault → log.new ≡ log.old) }
+    ensures write { IsErrOf result ServiceFault.Write ↔ (W.failed log.new ≡ true) }
+    ensures works { OnOk result (W.failed log.new ≡ false) }
+{
+    let (file, links) = match linked_file(rt, host, request, place, events) {
+        Ok(site) => site,
+        Err(fault) => {
+            drop(listeners);
+            return Err(fault);
+        }
+    };
+    if let Err(fault) = write_addresses(host.alloc(), log, &listeners) {
+        drop(listeners);
+        drop(file);
+        drop(links);
+        return Err(fault);
+    }
+    match serve_file::<R, D>(
+        rt,
+        host.alloc(),
+        request,
+        file,
+        links,
+        listeners,
+        sessions,
+        events,
+    ) {
+        Ok(reason) => Ok(reason),
+        Err(fault) => Err(ServiceFault::Linked(fault)),
+    }
+}
+
+// A new site, and how it is linked.
+fn new_site<R: RandomSource>(
+    rt: &R,
+    alloc: Global,
+    request: &LinkedRequest<'_>,
+) -> Result<(Replica, LinkSettings), LinkedSiteFault>
+    ensures site { IfOk result (λ it. it.0.site ≡ request.now.site) }
+    ensures names { IfOk result (λ it. it.0.names ≡ request.now.list.now) }
+    ensures new { IfOk result (λ it. IsNew it.0) }
+    ensures peers { IfOk result (λ it. vec_len it.1.peers ≡ length request.now.peers.now) }
+{
+    let links = match links_without_store(rt, alloc, request) {
+        Ok(links) => links,
+        Err(fault) => return Err(fault),
+    };
+    match request.list.copy() {
+        Ok(list) => Ok((Replica::new(alloc, request.site, list), links)),
+        Err(_) => {
+            drop(links);
+            Err(LinkedSiteFault::Memory)
+        }
+    }
+}
+
+// Serves a site without a store until it ends.
+fn serve_new<
+    R: Net<Listener = TcpListener, Stream = TcpStream>
+        + Threads
+        + Wait
+        + Clock
+        + RandomSource
+        + Sync,
+>(
+    rt: &R,
+    alloc: Global,
+    request: &LinkedRequest<'_>,
+    replica: Replica,
+    links: LinkSettings,
+    listeners: Listeners,
+    sessions: Option<u32>,
+    events: &Arc<EventLog, Global>,
+) -> Result<EndReason, LinkedSiteFault>
+    requires places { request.now.places ≤ MOST_PLACES }
+    requires peers { vec_len links.peers ≤ MOST_PEERS }
+{
+    let Listeners {
+        clients,
+        links: heard,
+    } = listeners;
+    match serve_linked_site(
+        rt,
+        alloc,
+        request.session,
+        request.places,
+        links,
+        replica,
+        clients,
+        heard,
+        sessions,
+        events,
+    ) {
+        Ok(end) => {
+            let reason = end.reason;
+            drop(end);
+            Ok(reason)
+        }
+        Err(fault) => Err(fault),
+    }
+}
+
+/// Serves one new site, which stores nothing, until it ends, as `serve_linked_site` of `linked_site` does, and returns why it has ended. The
+/// log has the lines of `serve_linked_file`. The 16 bytes in place of a store's name are random.
+///
+/// Errors, in order: 1 `Linked` with `NoRandom` and `Memory`; the log is as it was; 2 `Linked` with `NoAddress`; 3 `Write`; 4 `Linked`, with
+/// the errors of `serve_linked_site`. `Memory` may stand in place of 2 and 3.
+pub fn serve_volatile<
+    R: Net<Listener = TcpListener, Stream = TcpStream>
+        + Threads
+        + Wait
+        + Clock
+        + RandomSource
+        + Sync,
+    W: Sink,
+>(
+    rt: &R,
+    alloc: Global,
+    request: &LinkedRequest<'_>,
+    listeners: Listeners,
+    sessions: Option<u32>,
+    log: &mut W,
+    events: &Arc<EventLog, Global>,
+) -> Result<EndReason, ServiceFault>
+    requires places { request.now.places ≤ MOST_PLACES }
+    requires peers { length request.now.peers.now ≤ MOST_PEERS }
+    requires log { W.failed log.old ≡ false }
+    ensures written { OnOk result ((clients : SocketAddr) × (links : SocketAddr)
+        × Appends (W.taken log.old) (W.taken log.new) (address_lines clients links)) }
+    ensures refused { IfErr result (λ fault. IsRefusal fault → log.new ≡ log.old) }
+    ensures write { IsErrOf result ServiceFault.Write ↔ (W.failed log.new ≡ true) }
+    ensures works { OnOk result (W.failed log.new ≡ false) }
+{
+    let (replica, links) = match new_site(rt, alloc, request) {
+        Ok(site) => site,
+        Err(fault) => {
+            drop(listeners);
+            return Err(ServiceFault::Linked(fault));
+        }
+    };
+    if let Err(fault) = write_addresses(alloc, log, &listeners) {
+        drop(listeners);
+        drop(replica);
+        drop(links);
+        return Err(fault);
+    }
+    match serve_new(
+        rt, alloc, request, replica, links, listeners, sessions, events,
+    ) {
+        Ok(reason) => Ok(reason),
+        Err(fault) => Err(ServiceFault::Linked(fault)),
+    }
+}

@@ -1,0 +1,76 @@
+//! How a site is linked.
+ghost use Rattle.std.specs.Prelude.{◌≡◌, ◌≤◌, IfOk, length, vec_len};
+ghost use Rattle.linked_site.specs.declared.link_settings.TheConstants.{MOST_PEERS};
+
+use dots::{Memory, SiteId};
+use link_keys::Key;
+use linked_site::{LinkSettings, LinkedSiteFault, MOST_PEERS};
+use replica::QueueList;
+use serving_clients::SessionSettings;
+use std::alloc::Global;
+use std::random::RandomSource;
+
+/// A site that is linked to others, and how it is served (this project's own).
+#[derive(Clone, Copy)]
+pub struct LinkedRequest<'a> {
+    /// The site's number.
+    pub site: SiteId,
+    /// Its queues.
+    pub list: &'a QueueList,
+    /// How many clients it answers at once, 1 to 64.
+    pub places: u16,
+    /// The settings of its sessions.
+    pub session: &'a SessionSettings,
+    /// The key of the secret that all sites share.
+    pub key: &'a Key,
+    /// The addresses of its peers, at most 64, each a host and a port. Its own may be among them.
+    pub peers: &'a [String],
+}
+
+// Copies of the addresses of peers.
+fn peers_of(alloc: Global, addresses: &[String]) -> Result<Vec<String>, Memory>
+    ensures { IfOk result (λ peers. vec_len peers ≡ length addresses.now) }
+{
+    let mut peers = Vec::new(alloc);
+    for address in addresses {
+        peers.push(String::from_str(alloc, address.as_str())?)?;
+    }
+    Ok(peers)
+}
+
+// How a site is linked whose store has this name and was started so often.
+pub(crate) fn links_of(
+    alloc: Global,
+    request: &LinkedRequest<'_>,
+    store: [u8; 16],
+    starts: u64,
+) -> Result<LinkSettings, Memory>
+    ensures key { IfOk result (λ links. links.key ≡ request.now.key.now) }
+    ensures store { IfOk result (λ links. links.store ≡ store) }
+    ensures starts { IfOk result (λ links. links.starts ≡ starts) }
+    ensures peers { IfOk result (λ links. vec_len links.peers ≡ length request.now.peers.now) }
+{
+    let peers = peers_of(alloc, request.peers)?;
+    Ok(LinkSettings {
+        key: Key::new(*request.key.as_bytes()),
+        store,
+        starts,
+        peers,
+    })
+}
+
+// How a site is linked that has no store.
+pub(crate) fn links_without_store<R: RandomSource>(
+    rt: &R,
+    alloc: Global,
+    request: &LinkedRequest<'_>,
+) -> Result<LinkSettings, LinkedSiteFault>
+    ensures key { IfOk result (λ links. links.key ≡ request.now.key.now) }
+    ensures starts { IfOk result (λ links. links.starts ≡ 1) }
+    ensures peers { IfOk result (λ links. vec_len links.peers ≡ length request.now.peers.now) }
+{
+    match peers_of(alloc, request.peers) {
+        Ok(peers) => { LinkSettings::without_store(rt, Key::new(*request.key.as_bytes()), peers) }
+        Err(_) => Err(LinkedSiteFault::Memory),
+    }
+}

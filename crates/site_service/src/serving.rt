@@ -1,0 +1,165 @@
+//! The sites of a server whose stores are files.
+ghost use Rattle.std.specs.List.{All};
+ghost use Rattle.std.specs.Prelude.{◌≡◌, ◌↔◌, ◌+◌, ◌<◌, ◌≤◌, ℕ, [], IfErr, IfOk, IsErrOf, OnErr};
+ghost use Rattle.std.specs.Prelude.{OnOk, false, true, vec_len};
+ghost use Rattle.std.specs.Io.KnownBytes.{Appends};
+ghost use Rattle.std.specs.declared.io.Error.{Error};
+ghost use Rattle.ami_text.specs.Devices.{HasTaken};
+ghost use Rattle.launcher.specs.Places.{AtEach};
+ghost use Rattle.replica.specs.Site.{IsSameSite};
+ghost use Rattle.server.specs.Listening.{listening_lines};
+ghost use Rattle.server.specs.declared.serving.TheConstants.{LAST_PORT, MOST_SERVED_SITES};
+ghost use Rattle.server.specs.declared.working.TheConstants.{MOST_PLACES};
+ghost use Rattle.site_service.specs.Refusals.{IsRefusal};
+
+use crate::ServiceFault;
+use crate::opening::open_site;
+use ami_text::Sink;
+use dots::SiteId;
+use event_log::EventLog;
+use replica::QueueList;
+use server::{
+    LAST_PORT, MOST_PLACES, MOST_SERVED_SITES, ServeSitesFault, StoredStart, serve_stored_sites,
+};
+use serving_clients::ServerSettings;
+use site_files::{SiteFile, StoreInFile, StorePath, file_of_site};
+use std::alloc::Global;
+use std::net::{Net, TcpListener, TcpStream};
+use std::sync::{Arc, Wait};
+use std::thread::Threads;
+use std::time::Clock;
+
+// The site of this number, whose store is in a folder.
+fn start_of<D: StoreInFile, R: Wait>(
+    rt: &R,
+    host: &HostRuntime,
+    folder: StorePath<'_>,
+    site: SiteId,
+    list: &QueueList,
+    events: &EventLog,
+) -> Result<StoredStart<D>, ServiceFault>
+    ensures site { IfOk result (λ it. it.replica.site ≡ site) }
+    ensures names { IfOk result (λ it. it.replica.names ≡ list.now) }
+    ensures begun { IfOk result (λ it. IsSameSite (D.begun it.store) it.replica) }
+    ensures holds { IfOk result (λ it. D.holds it.store []) }
+    ensures keeps { IfOk result (λ it. D.keeps it.store []) }
+    ensures fault { IfErr result IsRefusal }
+{
+    let Ok(path) = file_of_site(host.alloc(), folder.path, site) else {
+        return Err(ServiceFault::Memory);
+    };
+    let place = StorePath {
+        path: path.as_str(),
+        keeps: folder.keeps,
+    };
+    let file = open_site(rt, host, place, site, list, events);
+    drop(path);
+    match file {
+        Ok(file) => {
+            let SiteFile { store, replica, .. } = file;
+            Ok(StoredStart { replica, store })
+        }
+        Err(fault) => Err(fault),
+    }
+}
+
+// The sites whose stores are in a folder, in the order of their numbers.
+fn starts_of<D: StoreInFile, R: Wait>(
+    rt: &R,
+    host: &HostRuntime,
+    folder: StorePath<'_>,
+    sites: u16,
+    list: &QueueList,
+    events: &EventLog,
+) -> Result<Vec<StoredStart<D>>, ServiceFault>
+    requires { sites ≤ MOST_SERVED_SITES }
+    ensures number { IfOk result (λ starts. vec_len starts ≡ sites) }
+    ensures sites { IfOk result (λ starts.
+        AtEach (λ place it. it.replica.site ≡ place) starts.items) }
+    ensures names { IfOk result (λ starts.
+        All (λ it. it.replica.names ≡ list.now) starts.items) }
+    ensures begun { IfOk result (λ starts.
+        All (λ it. IsSameSite (D.begun it.store) it.replica) starts.items) }
+    ensures holds { IfOk result (λ starts. All (λ it. D.holds it.store []) starts.items) }
+    ensures keeps { IfOk result (λ starts. All (λ it. D.keeps it.store []) starts.items) }
+    ensures fault { IfErr result IsRefusal }
+{
+    let mut starts = match Vec::with_capacity(host.alloc(), usize::from(sites)) {
+        Ok(starts) => starts,
+        Err(_) => return Err(ServiceFault::Memory),
+    };
+    for number in 0..sites {
+        let Some(site) = SiteId::new(number) else {
+            unreachable!();
+        };
+        match start_of(rt, host, folder, site, list, events) {
+            Ok(start) => starts.push_reserved(start),
+            Err(fault) => {
+                drop(starts);
+                return Err(fault);
+            }
+        }
+    }
+    Ok(starts)
+}
+
+/// Serves sites over their stores at once, as many as `settings` says, with the numbers 0, 1 and so on and the queues of `list`. The store of
+/// site i is the file `FOLDER/site-i.db`. All stores are opened first, in order, and a store whose file is missing is made, with a line in
+/// `events`: `queue_sites: site 0: new store FOLDER/site-0.db`. The sites are then served as `serve_stored_sites` of `server` does.
+///
+/// It returns Ok when all sites have ended: each has taken as many connections as `sessions` says, or one has failed, and a line in `events`
+/// says why.
+///
+/// Errors, in order: 1 `Store`, for the first store that gives no site, with its path and the cause, and `Memory`; the log is as it was;
+/// 2 `Server`, with the errors of `serve_stored_sites`.
+pub fn serve_site_files<
+    R: Net<Listener = TcpListener, Stream = TcpStream> + Threads + Wait + Clock + Sync,
+    D: StoreInFile + Send,
+    W: Sink,
+>(
+    rt: &R,
+    host: &HostRuntime,
+    settings: &ServerSettings,
+    list: &QueueList,
+    folder: StorePath<'_>,
+    sessions: Option<u32>,
+    log: &mut W,
+    events: &Arc<EventLog, Global>,
+) -> Result<(), ServiceFault>
+where
+    D::Group: Send,
+    D::Base: Send,
+    requires some { 1 ≤ settings.now.sites }
+    requires most { settings.now.sites ≤ MOST_SERVED_SITES }
+    requires answered { 1 ≤ settings.now.places }
+    requires places { settings.now.places ≤ MOST_PLACES }
+    requires first { 1 ≤ settings.now.port }
+    requires last { settings.now.port ≤ LAST_PORT }
+    requires log { W.failed log.old ≡ false }
+    ensures written { OnOk result (Appends (W.taken log.old) (W.taken log.new)
+        (listening_lines settings.now.address settings.now.port settings.now.sites)) }
+    ensures refused { IfErr result (λ fault. IsRefusal fault → log.new ≡ log.old) }
+    ensures port { (port : ℕ) (reason : Error)
+        → IsErrOf result (ServiceFault.Server (ServeSitesFault.CannotListen port reason))
+        → (settings.now.port ≤ port) × (port < settings.now.port + settings.now.sites) }
+    ensures unwritten { (port : ℕ) (reason : Error)
+        → IsErrOf result (ServiceFault.Server (ServeSitesFault.CannotListen port reason))
+        → log.new ≡ log.old }
+    ensures begun { OnErr result (HasTaken (W.taken log.old) (W.taken log.new)
+        (listening_lines settings.now.address settings.now.port settings.now.sites)) }
+    ensures write { IsErrOf result (ServiceFault.Server ServeSitesFault.Write)
+        ↔ (W.failed log.new ≡ true) }
+    ensures works { OnOk result (W.failed log.new ≡ false) }
+{
+    let starts = match starts_of(rt, host, folder, settings.sites, list, events) {
+        Ok(starts) => starts,
+        Err(fault) => return Err(fault),
+    };
+    match serve_stored_sites::<R, D, W>(rt, host.alloc(), settings, starts, sessions, log, events) {
+        Ok(ends) => {
+            drop(ends);
+            Ok(())
+        }
+        Err(fault) => Err(ServiceFault::Server(fault)),
+    }
+}
