@@ -18,7 +18,6 @@ use std::alloc::Global;
 use std::net::{Net, TcpListener, TcpStream};
 use std::random::RandomSource;
 use std::sync::Wait;
-use std::thread;
 use std::time::{Clock, Duration};
 use stored_pass_desk::Upkeep;
 
@@ -39,12 +38,14 @@ pub(crate) fn answer<R: Net<Listener = TcpListener, Stream = TcpStream> + Wait +
     }
 }
 
-// Waits after a fault of the thread that makes frames. Then the bell rings, so that what it had to make is made; but not where the site
-// has used up its frame numbers.
+// Waits after a fault of the thread that makes frames, or until the site ends. If it doesn't end the bell rings, so that what it had to
+// make is made; but not where the site has used up its frame numbers.
 fn recover<R: Wait + Clock>(rt: &R, site: &LinkedSite, fault: DeskFault) {
-    thread::sleep(rt, Duration::from_millis(PAUSE_MILLIS));
+    let pause = Duration::from_millis(PAUSE_MILLIS);
+    let ends = site.links.ending().wait_within(rt, pause);
     match fault {
         DeskFault::Exhausted => {}
+        _ if ends => {}
         _ => site.bell().ring(rt),
     }
 }

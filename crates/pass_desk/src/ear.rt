@@ -6,6 +6,7 @@ use dots::MOST_COUNT;
 use site_journal::Bell;
 use std::marker::Model;
 use std::sync::Wait;
+use std::thread;
 use std::time::{Clock, Duration, Instant};
 
 // How long after a whole the next one is made while a peer is behind, in milliseconds; and if a peer that is behind has got room.
@@ -13,12 +14,19 @@ const WHOLE_MILLIS: u64 = 5_000;
 
 const HURRIED_MILLIS: u64 = 200;
 
+// How long an ear that rests does so after each ring, in milliseconds.
+const REST_MILLIS: u64 = 1;
+
 /// The ear of the thread that hears a bell (this project's own). It hears rings in *rounds*: a round ends when the bell has ended, or when a
 /// *whole* is due, a frame of all that the site knows. While a peer is behind the site, a whole is due 5 seconds after the last one, or 0.2
 /// seconds after it if that peer has removed a member.
+///
+/// An ear of a site that has nobody to send to may rest after each ring: meanwhile rings wake no thread, and are one ring.
 #[derive(Drop)]
 pub struct Ear<'a> {
     bell: &'a SiteBell,
+    // Whether it rests after each ring.
+    rests: bool,
     heard: u64,
     has_ended: bool,
     has_bell_ended: bool,
@@ -54,6 +62,7 @@ impl<'a> Ear<'a> {
     {
         Ear {
             bell,
+            rests: false,
             heard: 0,
             has_ended: false,
             has_bell_ended: false,
@@ -62,6 +71,17 @@ impl<'a> Ear<'a> {
             is_hurried: false,
             whole_at: None,
         }
+    }
+
+    /// An ear for this bell, as `new` makes it, that rests for a millisecond after each ring.
+    pub fn resting(bell: &'a SiteBell) -> Ear<'a>
+        ensures rings { result.rings ≡ 0 }
+        ensures ended { result.ended ≡ false }
+        ensures closed { result.closed ≡ false }
+    {
+        let mut ear = Ear::new(bell);
+        ear.rests = true;
+        ear
     }
 
     /// Whether it has found the bell ended, which stays.
@@ -152,8 +172,12 @@ impl<'a, R: Wait + Clock> Bell<R> for Ear<'a> {
 
     ghost ended = { λ ear. ear.ended };
 
-    /// Waits for a ring. `false`: the round has ended, as one does that has heard 2^40 rings.
+    /// Waits for a ring. `false`: the round has ended, as one does that has heard 2^40 rings. An ear that rests has heard the last ring of its
+    /// round a millisecond before, at least.
     fn wait(&mut self, rt: &R) -> bool {
+        if self.rests && self.heard > 0 {
+            thread::sleep(rt, Duration::from_millis(REST_MILLIS));
+        }
         if self.has_ended || self.heard == MOST_COUNT || !self.hear_ring(rt) {
             self.has_ended = true;
             return false;

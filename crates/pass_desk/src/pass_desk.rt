@@ -72,7 +72,7 @@ fn answer_with_room<L: SiteLedger, R: Wait>(
         Err(DeskFault::JournalFull) => {}
         Err(_) => return Err(DeskDown),
     }
-    if desk.checkpoint(rt).is_err() {
+    if desk.checkpoint_if_full(rt).is_err() {
         return Err(DeskDown);
     }
     match answer_by(rt, desk, pass, asked) {

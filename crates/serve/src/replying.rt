@@ -11,7 +11,7 @@ ghost use Rattle.serve.specs.Steps.{IsPerformed};
 use crate::{Desk, ServeFault};
 use ami_session::{Act, Pending, Session};
 use ami_text::{Failed, Message, Sink, write_all};
-use status_report::Ask;
+use status_report::{Answer, Ask};
 use std::alloc::Global;
 
 // Writes all the bytes. Error: `Write`, after a prefix of them.
@@ -41,7 +41,8 @@ pub fn greet<W: Sink>(writer: &mut W, session: &Session) -> Result<(), Failed>
     write_all(writer, b"\r\n")
 }
 
-// Asks the desk, and writes the reply with its answer. Errors: `Write`, `DeskDown`, `Memory`.
+// Asks the desk, and writes the reply with its answer. A report is the reply, and isn't copied. Errors:
+// `Write`, `DeskDown`, `Memory`.
 fn answer_ask<R, W: Sink, D: Desk<R>>(
     rt: &R,
     alloc: Global,
@@ -58,6 +59,9 @@ fn answer_ask<R, W: Sink, D: Desk<R>>(
         Ok(answer) => answer,
         Err(_) => return Err(ServeFault::DeskDown),
     };
+    if let Answer::Report(report) = &answer {
+        return write(writer, report.as_slice());
+    }
     match pending.answer(alloc, answer) {
         Ok(reply) => write(writer, &reply),
         Err(_) => Err(ServeFault::Memory),

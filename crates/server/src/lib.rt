@@ -12,6 +12,7 @@
 mod keeping_bell;
 mod listening;
 mod peer_link;
+mod peer_outlet;
 mod pumping;
 mod serve_sites_fault;
 mod serving;

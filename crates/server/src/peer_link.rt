@@ -6,19 +6,12 @@ use crate::site::Site;
 use dots::SiteId;
 use replica::TakeFault;
 use site_journal::DeskFault;
-use site_links::{LinkReceiver, LinkSender};
+use site_links::LinkReceiver;
 use site_pumps::Inlet;
 use std::alloc::Global;
 use std::sync::Wait;
 use std::sync::atomic::{AtomicU64, Ordering};
 use stored_pass_desk::Upkeep;
-
-// Sends a mark on each link, after a whole that was sent on all of them: an item without a byte, which is no frame.
-pub(crate) fn mark_whole<R: Wait>(rt: &R, alloc: Global, links: &mut [LinkSender]) {
-    for link in links {
-        let _ = link.send(rt, Vec::new(alloc));
-    }
-}
 
 // The link that brings the frames of a peer. Before each of them the journal's steps are dropped if they keep more than 64 MiB.
 //

@@ -1,10 +1,12 @@
 //! The threads of a site that send its frames, and that take those of its peers. A fault ends a pump, which is then called again.
-ghost use Rattle.std.specs.Prelude.{◌≡◌, ◌⊎◌, ◌↔◌, IfErr, IfNone, IsTrue, OnOk, false, true};
+ghost use Rattle.std.specs.Prelude.{◌≡◌, ◌⊎◌, ◌↔◌, ◌≤◌, IfErr, IfNone, IsTrue, OnOk, false, true};
+ghost use Rattle.std.specs.Prelude.{vec_capacity, vec_len};
 ghost use Rattle.site_pumps.specs.Calls.{HasCalled};
 ghost use Rattle.server.specs.EndingFaults.{EndsSite};
 
 use crate::keeping_bell::KeepingBell;
-use crate::peer_link::{PeerLink, mark_whole};
+use crate::peer_link::PeerLink;
+use crate::peer_outlet::PeerOutlet;
 use crate::site::Site;
 use dots::Memory;
 use site_journal::{DeskFault, Port, Receipt};
@@ -96,17 +98,31 @@ fn recover<R: Wait + Clock, U: Upkeep<R>>(
     Some(is_full)
 }
 
-// Sends on these links by this port what the site does, until the site's bell has ended. When a whole is due, it sends one.
+// Notes that the last frame of all these outlets was a whole. Returns whether each link that is up has taken it.
+fn end_whole<R: Wait>(rt: &R, site: &Site, outlets: &mut [PeerOutlet<'_>]) -> bool {
+    let mut have_all = true;
+    for outlet in outlets {
+        if !outlet.end_whole(rt) {
+            have_all = false;
+        }
+    }
+    if have_all {
+        site.lack_no_frames(rt);
+    }
+    have_all
+}
+
+// Sends to these outlets by this port what the site does, until the site's bell has ended. When a whole is due, it sends one. Once the bell
+// has ended it sends wholes until each link that is up has taken one.
 //
 // After a fault it goes on, unless the bell has ended. What it had to send when a cut was refused is sent with the next cut. A whole that was
-// not sent on every link is made again. Error: `Unsaved`, if the site's store has failed.
+// not sent to every outlet is made again. Error: `Unsaved`, if the site's store has failed.
 fn send_to_the_end<R: Wait + Clock, P: Port<R>, U: Upkeep<R>>(
     rt: &R,
-    alloc: Global,
     site: &Site,
     upkeep: &U,
     port: &mut P,
-    links: &mut [LinkSender],
+    outlets: &mut [PeerOutlet<'_>],
     bell: &mut KeepingBell<'_, U>,
 ) -> Result<(), DeskFault>
     ensures calls { HasCalled P.makes P.refuses port.old port.new }
@@ -117,12 +133,15 @@ fn send_to_the_end<R: Wait + Clock, P: Port<R>, U: Upkeep<R>>(
     let mut again = false;
     for _ in rt.forever() {
         let mut steps = StepFlag { has_step: false };
-        match broadcast(rt, port, links, bell, &mut steps) {
+        match broadcast(rt, port, outlets, bell, &mut steps) {
             Ok(()) => {
+                let have_all = end_whole(rt, site, outlets);
                 if bell.has_bell_ended() {
-                    return Ok(());
+                    if have_all {
+                        return Ok(());
+                    }
+                    thread::sleep(rt, Duration::from_millis(PAUSE_MILLIS));
                 }
-                mark_whole(rt, alloc, links);
                 bell.begin_round(rt);
                 again = false;
             }
@@ -138,20 +157,53 @@ fn send_to_the_end<R: Wait + Clock, P: Port<R>, U: Upkeep<R>>(
     unreachable!()
 }
 
-// Sends a whole on these links by this port. If that fails it is still due.
+// Sends a whole to these outlets by this port. If that fails it is still due.
 fn send_first_whole<R: Wait + Clock, P: Port<R>, U>(
     rt: &R,
     port: &mut P,
-    links: &mut [LinkSender],
+    outlets: &mut [PeerOutlet<'_>],
     bell: &mut KeepingBell<'_, U>,
 )
     ensures { HasCalled P.makes P.refuses port.old port.new }
 {
     let mut sink = NoReceipts;
-    match broadcast_whole(rt, port, links, &mut sink) {
+    match broadcast_whole(rt, port, outlets, &mut sink) {
         Ok(()) => bell.begin_round(rt),
         Err(_) => bell.end_round(),
     }
+}
+
+// Room for this number of outlets. Waits until there is memory for it.
+fn room_for<'a, R: Wait + Clock>(rt: &R, alloc: Global, number: usize) -> Vec<PeerOutlet<'a>>
+    ensures none { vec_len result ≡ 0 }
+    ensures room { number ≤ vec_capacity result }
+{
+    for _ in rt.forever() {
+        if let Ok(room) = Vec::with_capacity(alloc, number) {
+            return room;
+        }
+        thread::sleep(rt, Duration::from_millis(PAUSE_MILLIS));
+    }
+    unreachable!()
+}
+
+// The outlets over a site's links, which stand by the numbers of the peers.
+fn outlets_of<'a, R: Wait + Clock>(
+    rt: &R,
+    alloc: Global,
+    site: &'a Site,
+    links: Vec<LinkSender>,
+) -> Vec<PeerOutlet<'a>> {
+    let own = usize::from(site.number.number());
+    let mut links = links;
+    let mut outlets = room_for(rt, alloc, links.len());
+    while let Some(link) = links.pop() {
+        let place = links.len();
+        let peer = if place < own { place } else { place + 1 };
+        outlets.push_reserved(PeerOutlet::new(alloc, site, peer, link));
+    }
+    drop(links);
+    outlets
 }
 
 // Sends on these links by this port what the site does, and drops the links once the site's bell has ended. If the site `is_restored`, it
@@ -167,22 +219,14 @@ pub(crate) fn send_news<R: Wait + Clock, P: Port<R>, U: Upkeep<R>>(
 ) -> Result<(), DeskFault>
     ensures { HasCalled P.makes P.refuses port.old port.new }
 {
-    let mut links = links;
+    let mut outlets = outlets_of(rt, alloc, site, links);
     let mut bell = KeepingBell::new(site, upkeep);
     if is_restored {
-        send_first_whole(rt, port, links.as_mut_slice(), &mut bell);
+        send_first_whole(rt, port, outlets.as_mut_slice(), &mut bell);
     }
-    let ended = send_to_the_end(
-        rt,
-        alloc,
-        site,
-        upkeep,
-        port,
-        links.as_mut_slice(),
-        &mut bell,
-    );
+    let ended = send_to_the_end(rt, site, upkeep, port, outlets.as_mut_slice(), &mut bell);
     drop(bell);
-    drop(links);
+    drop(outlets);
     ended
 }
 

@@ -26,6 +26,16 @@ impl Site {
         }
     }
 
+    // Notes at the site's own bell that a peer lacks frames, as a link was full.
+    pub fn lack_frames<R: Wait>(&self, rt: &R) {
+        self.bell.fall_behind(rt, self.number);
+    }
+
+    // Notes at the site's own bell that no peer lacks frames any more.
+    pub fn lack_no_frames<R: Wait>(&self, rt: &R) {
+        self.bell.catch_up(rt, self.number);
+    }
+
     // Notes at the bell of a peer that this site has caught up with it.
     pub fn catch_up<R: Wait>(&self, rt: &R, peer: SiteId) {
         if let Some(bell) = self.bells.get(usize::from(peer.number())) {

@@ -9,6 +9,7 @@ use crate::client_sink::ClientSink;
 use crate::client_source::ClientSource;
 use crate::deadlines::{shorter, time_left, write_wait};
 use crate::message_count::MessageCount;
+use crate::timed_read::TimedStream;
 use serve::{Desk, ServeFault, serve};
 use std::alloc::Global;
 use std::cell::Cell;
@@ -183,7 +184,8 @@ pub fn answer_client<'x, R: Wait + Clock, D: Desk<R>>(
         }
     };
     let is_logged_in = Cell::new(false);
-    let mut reader = ClientSource::new(rt, stream, connected, settings, &is_logged_in);
+    let timed = TimedStream::new(stream);
+    let mut reader = ClientSource::new(rt, &timed, connected, settings, &is_logged_in);
     let mut writer = ClientSink::new(rt, stream, settings.write);
     let session = settings.session();
     let mut watch = ClientWatch::new(*log, &is_logged_in, session.tries());

@@ -1,6 +1,7 @@
 //! Streams of which each read is given the time for which it may wait.
 ghost use Rattle.std.specs.Prelude.{◌≤◌, IfOk, length};
 
+use std::cell::Cell;
 use std::io::{ErrorKind, Read};
 use std::net::TcpStream;
 use std::time::Duration;
@@ -50,15 +51,36 @@ fn read_once(stream: &TcpStream, piece: &mut [u8]) -> Result<usize, StreamFault>
     Err(StreamFault::Failed)
 }
 
-impl TimedRead for TcpStream {
+// A TCP stream that knows for how long its reads wait, so that a read sets this only where it changes.
+#[derive(Drop)]
+pub(crate) struct TimedStream<'a> {
+    stream: &'a TcpStream,
+    // `None`: no read was made yet.
+    wait: Cell<Option<Option<Duration>>>,
+}
+
+impl<'a> TimedStream<'a> {
+    // A stream of which nothing was read. From now on nothing else sets how long its reads wait.
+    pub fn new(stream: &'a TcpStream) -> TimedStream<'a> {
+        TimedStream {
+            stream,
+            wait: Cell::new(None),
+        }
+    }
+}
+
+impl<'a> TimedRead for TimedStream<'a> {
     ghost use Rattle.std.specs.Prelude.{⊤};
 
     ghost gives = { λ stream wait count piece. ⊤ };
 
     fn read_within(&self, wait: Option<Duration>, piece: &mut [u8]) -> Result<usize, StreamFault> {
-        if self.set_read_timeout(wait).is_err() {
-            return Err(StreamFault::Failed);
+        if self.wait.get() != Some(wait) {
+            if self.stream.set_read_timeout(wait).is_err() {
+                return Err(StreamFault::Failed);
+            }
+            self.wait.set(Some(wait));
         }
-        read_once(self, piece)
+        read_once(self.stream, piece)
     }
 }

@@ -25,6 +25,6 @@ pub use site_journal::{
 };
 pub use site_links::{Link, LinkReceiver, LinkSender, compare};
 pub use site_pumps::{
-    Deed, Inlet, LinkPlan, NoReceipts, Pumped, PumpedIn, ReceiptSink, pump_in, pump_out,
+    Deed, Inlet, LinkPlan, NoReceipts, PumpedIn, PumpedOut, ReceiptSink, pump_in, pump_out,
 };
 pub use work::{SiteEnd, SiteWork};

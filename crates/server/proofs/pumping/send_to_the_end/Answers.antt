@@ -7,8 +7,8 @@ pub loop-init : goal.loop-init
 loop-init g c = called_none g.P.Port.makes g.P.Port.refuses c.args.port.now
 
 -- then the calls of one broadcast
-pub returns-then-has_bell_ended-clause-calls : goal.returns-then-has_bell_ended-clause-calls
-returns-then-has_bell_ended-clause-calls g c = called_then g.P.Port.makes g.P.Port.refuses _ _ _ c.loop.invariant (called_work g.P.Port.makes g.P.Port.refuses _ _ _ _ c.broadcast.ensures.broadcast.5.work)
+pub returns-then-have_all-clause-calls : goal.returns-then-have_all-clause-calls
+returns-then-have_all-clause-calls g c = called_then g.P.Port.makes g.P.Port.refuses _ _ _ c.loop.invariant (called_work g.P.Port.makes g.P.Port.refuses _ _ _ _ c.broadcast.ensures.broadcast.5.work)
 
 pub loop-preserved-in-Ok : goal.loop-preserved-in-Ok
 loop-preserved-in-Ok g c = called_then g.P.Port.makes g.P.Port.refuses _ _ _ c.loop.invariant (called_work g.P.Port.makes g.P.Port.refuses _ _ _ _ c.broadcast.ensures.broadcast.5.work)
