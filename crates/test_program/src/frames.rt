@@ -55,8 +55,12 @@ pub(crate) fn run<R: AllocGlobal + Print + Input>(
     let mut held = Delta::empty(rt.alloc());
     let given = give_lines(rt, &mut out, &mut held);
     drop(held);
+    let given = match given {
+        Ok(()) => out.flush(),
+        Err(error) => Err(error),
+    };
+    drop(out);
     given?;
-    out.flush()?;
     Ok(Some(0))
 }
 
@@ -68,7 +72,9 @@ fn give_lines<R: AllocGlobal + Input, W: Write>(
 ) -> io::Result<()> {
     for line in rt.lines(rt.alloc()) {
         let line = line?;
-        give_again(rt.alloc(), out, held, line.as_str())?;
+        let given = give_again(rt.alloc(), out, held, line.as_str());
+        drop(line);
+        given?;
     }
     Ok(())
 }

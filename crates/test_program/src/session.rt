@@ -59,11 +59,13 @@ pub(crate) fn run<R: AllocGlobal + Print + Input>(
         return Ok(None);
     };
     let mut stream = Vec::new(rt.alloc());
-    rt.reader().read_to_end(&mut stream)?;
-    match serve_told(rt, &stream, told) {
-        Some(served) => Ok(Some(status(served))),
-        None => Ok(None),
+    if let Err(error) = rt.reader().read_to_end(&mut stream) {
+        drop(stream);
+        return Err(error);
     }
+    let served = serve_told(rt, &stream, told);
+    drop(stream);
+    Ok(served.map(status))
 }
 
 // If the first word begins with `front`: the rest of that word, and the other words. Otherwise all words.
@@ -108,11 +110,14 @@ fn serve_told<R: AllocGlobal + Print>(
 ) -> Option<Result<(), ServeFault>> {
     let alloc = rt.alloc();
     let session = session(told)?;
-    let replica = replica(alloc, told)?;
+    let Some(replica) = replica(alloc, told) else {
+        drop(session);
+        return None;
+    };
     let mut reader = MemorySource::new(stream, told.piece);
     let mut writer = StdSink::new(io::writer(rt));
     let mut desk = ReplicaDesk::new(alloc, replica);
-    Some(serve(
+    let served = serve(
         rt,
         alloc,
         &mut reader,
@@ -120,7 +125,11 @@ fn serve_told<R: AllocGlobal + Print>(
         session,
         &mut desk,
         &mut NoWatch,
-    ))
+    );
+    drop(desk);
+    drop(writer);
+    drop(reader);
+    Some(served)
 }
 
 fn session(told: Told<'_>) -> Option<Session> {
@@ -166,7 +175,7 @@ fn has_taken(alloc: Global, replica: &mut Replica, digits: &str) -> bool {
     let front = decode(alloc, &bytes);
     drop(bytes);
     match front {
-        Ok((frame, _)) => replica.take(frame).is_ok(),
+        Ok((frame, _)) => replica.take(frame).err().is_none(),
         Err(_) => false,
     }
 }

@@ -65,11 +65,13 @@ pub(crate) fn run<R: AllocGlobal + Print + Input + Wait>(
         return Ok(None);
     };
     let mut out = BufWriter::new(rt.alloc(), io::writer(rt))?;
-    if !work(rt, &mut out, &told)? {
-        return Ok(None);
-    }
-    out.flush()?;
-    Ok(Some(0))
+    let status = match work(rt, &mut out, &told) {
+        Ok(true) => out.flush().map(|()| Some(0)),
+        Ok(false) => Ok(None),
+        Err(error) => Err(error),
+    };
+    drop(out);
+    status
 }
 
 // Runs all lines by these words. `false`: there is no site with these queues and this limit.
@@ -205,7 +207,9 @@ fn give_each<R: AllocGlobal + Input, W: Write, P: Place<R>>(
 ) -> io::Result<()> {
     for line in rt.lines(rt.alloc()) {
         let line = line?;
-        give_line(rt, rt.alloc(), out, place, receipts, line.as_str())?;
+        let given = give_line(rt, rt.alloc(), out, place, receipts, line.as_str());
+        drop(line);
+        given?;
     }
     Ok(())
 }

@@ -5,17 +5,17 @@ use std::sync::atomic::{AtomicU64, Ordering};
 
 // Makes room for a number of further values.
 fn reserve<const LAST: u32>(rt: &impl Abort, arena: &mut Arena<u32, LAST>, room: u32) {
-    assert!(rt; arena.reserve(room).is_ok());
+    assert!(*rt; arena.reserve(room).is_ok());
 }
 
 // Asserts that there aren't cells enough for a number of further values.
 fn assert_full<const LAST: u32>(rt: &impl Abort, arena: &mut Arena<u32, LAST>, room: u32) {
-    assert!(rt; arena.reserve(room) == Err(ArenaFault::Full));
+    assert!(*rt; arena.reserve(room) == Err(ArenaFault::Full));
 }
 
 // Places a value, for which there must be room.
 fn place<const LAST: u32>(rt: &impl Abort, arena: &mut Arena<u32, LAST>, value: u32) -> CellId {
-    assert!(rt; arena.spare() > 0);
+    assert!(*rt; arena.spare() > 0);
     arena.place(value)
 }
 
@@ -28,22 +28,22 @@ fn place_at<const LAST: u32>(
     generation: u32,
 ) {
     let id = place(rt, arena, value);
-    assert!(rt; id == CellId::new(index, generation));
+    assert!(*rt; id == CellId::new(index, generation));
 }
 
 // Asserts the value of the id of this index in the first generation.
 fn assert_value<const LAST: u32>(rt: &impl Abort, arena: &Arena<u32, LAST>, index: u32, want: u32) {
-    assert!(rt; arena.get(CellId::new(index, 0)).copied() == Some(want));
+    assert!(*rt; arena.get(CellId::new(index, 0)).copied() == Some(want));
 }
 
 // Asserts that the id of this index in the first generation has no value.
 fn assert_spent<const LAST: u32>(rt: &impl Abort, arena: &Arena<u32, LAST>, index: u32) {
-    assert!(rt; arena.get(CellId::new(index, 0)).is_none());
+    assert!(*rt; arena.get(CellId::new(index, 0)).is_none());
 }
 
 // Takes the value of the id of this index in the first generation, and asserts what it is.
 fn take<const LAST: u32>(rt: &impl Abort, arena: &mut Arena<u32, LAST>, index: u32, want: u32) {
-    assert!(rt; arena.take(CellId::new(index, 0)) == Some(want));
+    assert!(*rt; arena.take(CellId::new(index, 0)) == Some(want));
 }
 
 // Asserts how many values there are, and how many cells are retired.
@@ -53,7 +53,7 @@ fn assert_cells<const LAST: u32>(
     values: u32,
     retired: u32,
 ) {
-    assert!(rt; arena.len() == values && arena.retired() == retired);
+    assert!(*rt; arena.len() == values && arena.retired() == retired);
 }
 
 // Places a value in each cell from the second on, and takes it out again.
@@ -101,7 +101,7 @@ fn place_counted<'a>(
     arena: &mut Arena<Counted<'a>, 3>,
     drops: &'a AtomicU64,
 ) -> CellId {
-    assert!(rt; arena.spare() > 0);
+    assert!(*rt; arena.spare() > 0);
     arena.place(Counted { drops })
 }
 
@@ -112,7 +112,7 @@ fn place_all_counted<'a>(
     drops: &'a AtomicU64,
     values: u32,
 ) -> CellId {
-    assert!(rt; arena.reserve(values).is_ok());
+    assert!(*rt; arena.reserve(values).is_ok());
     let mut last = place_counted(rt, arena, drops);
     for _ in 1..values {
         last = place_counted(rt, arena, drops);
@@ -134,7 +134,7 @@ fn take_counted<'a>(
 }
 
 fn assert_drops(rt: &impl Abort, drops: &AtomicU64, want: u64) {
-    assert!(rt; drops.load(Ordering::SeqCst) == want);
+    assert!(*rt; drops.load(Ordering::SeqCst) == want);
 }
 
 #[test]

@@ -11,14 +11,16 @@ use std::process::Abort;
 fn id_of(rt: &impl Abort, set: &MemberSet, told: ToldDot, of: ToldMember) -> CellId {
     let id = set.id(dot(rt, told)).expect(rt, "an id");
     let cell = set.at(id).expect(rt, "a live dot");
-    assert!(rt; *cell.member == member(rt, of));
+    let member = member(rt, of);
+    assert!(*rt; *cell.member == member);
+    drop(member);
     id
 }
 
 // Asserts that an id gives no member, and that the first dot has no id.
 fn assert_dead(rt: &impl Abort, set: &MemberSet, id: CellId) {
-    assert!(rt; set.at(id).is_none());
-    assert!(rt; set.id(dot(rt, FIRST)).is_none());
+    assert!(*rt; set.at(id).is_none());
+    assert!(*rt; set.id(dot(rt, FIRST)).is_none());
 }
 
 // Joins a set, which agrees.
@@ -31,13 +33,13 @@ fn assert_ids(rt: &impl Abort, set: &mut MemberSet, joined: MemberSet) {
     let first = id_of(rt, set, FIRST, SIP_1);
     join(rt, set, joined);
     let other = id_of(rt, set, OTHER, SIP_2);
-    assert!(rt; id_of(rt, set, FIRST, SIP_1) == first && other != first);
+    assert!(*rt; id_of(rt, set, FIRST, SIP_1) == first && other != first);
     do_changes(rt, set, &[Kill(FIRST)]);
     assert_dead(rt, set, first);
     do_changes(rt, set, &[Assert(SECOND, SIP_2, 6, 8)]);
     assert_dead(rt, set, first);
     let second = id_of(rt, set, SECOND, SIP_2);
-    assert!(rt; second != first && id_of(rt, set, OTHER, SIP_2) == other);
+    assert!(*rt; second != first && id_of(rt, set, OTHER, SIP_2) == other);
 }
 
 #[test]

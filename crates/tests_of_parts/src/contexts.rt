@@ -8,7 +8,7 @@ use std::process::Abort;
 
 // Adds a dot, for which there is room.
 fn insert(rt: &impl Abort, context: &mut Context, told: ToldDot) {
-    assert!(rt; context.insert(dot(rt, told)).is_ok());
+    assert!(*rt; context.insert(dot(rt, told)).is_ok());
 }
 
 // The context of one dot.
@@ -32,30 +32,30 @@ fn every_second(rt: &impl Abort, alloc: Global, first: u64, runs: u64) -> Contex
 
 // Asserts how many runs there are, and the prefix of site 0.
 fn assert_runs(rt: &impl Abort, context: &Context, runs: usize, prefix: u64) {
-    assert!(rt; context.runs() == runs);
-    assert!(rt; context.prefix(site(rt, 0)) == prefix);
+    assert!(*rt; context.runs() == runs);
+    assert!(*rt; context.prefix(site(rt, 0)) == prefix);
 }
 
 // Joins another context, for which there is room.
 fn join(rt: &impl Abort, context: &mut Context, other: &Context) {
-    assert!(rt; context.join(other).is_ok());
+    assert!(*rt; context.join(other).is_ok());
 }
 
 // Asserts that the join of another context is refused for too many runs.
 fn assert_too_many(rt: &impl Abort, context: &mut Context, other: &Context) {
-    assert!(rt; context.join(other) == Err(ContextFault::RunsFull));
-    assert!(rt; context.prepare(other) == Err(ContextFault::RunsFull));
-    assert!(rt; !context.prepared(other));
+    assert!(*rt; context.join(other) == Err(ContextFault::RunsFull));
+    assert!(*rt; context.prepare(other) == Err(ContextFault::RunsFull));
+    assert!(*rt; !context.prepared(other));
 }
 
 // Asserts that a context covers another.
 fn assert_covers(rt: &impl Abort, context: &Context, other: &Context) {
-    assert!(rt; context.covers(other));
+    assert!(*rt; context.covers(other));
 }
 
 // Asserts that two contexts have the same runs.
 fn assert_same_runs(rt: &impl Abort, context: &Context, other: &Context) {
-    assert!(rt; context.as_slice() == other.as_slice());
+    assert!(*rt; context.as_slice() == other.as_slice());
 }
 
 // Asserts that a context is one run of site 0, from 1 to 131,071.
@@ -65,7 +65,7 @@ fn assert_one_run(rt: &impl Abort, context: &Context) {
         first: 1,
         last: 131_071,
     };
-    assert!(rt; context.as_slice() == [run].as_slice());
+    assert!(*rt; context.as_slice() == [run].as_slice());
 }
 
 #[test]

@@ -15,24 +15,24 @@ fn delta_of(rt: &impl Abort, alloc: Global, by: ToldMember, completed: u16) -> D
 
 // Asserts that two deltas agree, both ways, and that the first has no room for the second.
 fn assert_unprepared(rt: &impl Abort, delta: &Delta, other: &Delta) {
-    assert!(rt; delta.agrees(other));
-    assert!(rt; other.agrees(delta));
-    assert!(rt; !delta.prepared(other));
+    assert!(*rt; delta.agrees(other));
+    assert!(*rt; other.agrees(delta));
+    assert!(*rt; !delta.prepared(other));
 }
 
 // Makes room for a delta in an empty one, which stays empty, and absorbs it.
 fn absorb(rt: &impl Abort, empty: &mut Delta, other: Delta) {
-    assert!(rt; empty.prepare(&other).is_ok());
-    assert!(rt; empty.is_empty());
-    assert!(rt; empty.prepared(&other));
+    assert!(*rt; empty.prepare(&other).is_ok());
+    assert!(*rt; empty.is_empty());
+    assert!(*rt; empty.prepared(&other));
     empty.absorb(other);
 }
 
 // Asserts how many dots are live, and how many calls of queue 0 are completed.
 fn assert_parts(rt: &impl Abort, delta: Delta, cells: usize, completed: u64) {
     let (members, totals) = delta.into_parts();
-    assert!(rt; members.cells() == cells);
-    assert!(rt; totals.sum(0).completed == completed);
+    assert!(*rt; members.cells() == cells);
+    assert!(*rt; totals.sum(0).completed == completed);
     drop(members);
     drop(totals);
 }
@@ -48,9 +48,9 @@ fn a_delta_is_absorbed_where_it_is_prepared(rt: HostRuntime) {
 
 // Asserts that two deltas don't agree, and that room for the second in the first is refused.
 fn assert_conflict(rt: &impl Abort, delta: &mut Delta, other: &Delta) {
-    assert!(rt; !delta.agrees(other));
-    assert!(rt; delta.prepare(other) == Err(JoinFault::Conflict));
-    assert!(rt; !delta.prepared(other));
+    assert!(*rt; !delta.agrees(other));
+    assert!(*rt; delta.prepare(other) == Err(JoinFault::Conflict));
+    assert!(*rt; !delta.prepared(other));
 }
 
 #[test]

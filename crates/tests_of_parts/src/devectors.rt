@@ -4,20 +4,20 @@ use std::process::Abort;
 
 // Inserts an item at a place, for which there must be room.
 fn insert(rt: &impl Abort, items: &mut Devector<u32>, place: usize, item: u32) {
-    assert!(rt; place <= items.len() && items.len() < items.room());
+    assert!(*rt; place <= items.len() && items.len() < items.room());
     items.insert(place, item);
 }
 
 // Removes the item at a place, and asserts its value.
 fn remove(rt: &impl Abort, items: &mut Devector<u32>, place: usize, want: u32) {
-    assert!(rt; place < items.len());
-    assert!(rt; items.remove(place) == want);
+    assert!(*rt; place < items.len());
+    assert!(*rt; items.remove(place) == want);
 }
 
 // Asserts the items, and for how many there is room.
 fn assert_items(rt: &impl Abort, items: &Devector<u32>, want: &[u32], room: usize) {
-    assert!(rt; items.as_slice() == want);
-    assert!(rt; items.room() == room);
+    assert!(*rt; items.as_slice() == want);
+    assert!(*rt; items.room() == room);
 }
 
 // Appends the numbers from 3 to 999, and removes the least from the front before each further one.

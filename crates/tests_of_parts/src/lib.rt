@@ -1,9 +1,12 @@
-//! Tests of the parts of a site's state, by their public calls: values, arenas, devectors, contexts, totals, sets of members and
-//! deltas; and of the faults of a launch. This crate has no code of its own.
+//! Tests of arenas, sets of members, values and launches, of replicas, frames and the reference model, and of what two sites say over a
+//! link, by their public calls: limits at full size, which frames from elsewhere a replica takes, and what operations show in many orders.
+//! This crate has no code of its own.
 #![tactic(auto)]
 
 #[cfg(test)]
 mod arenas;
+#[cfg(test)]
+mod asks;
 #[cfg(test)]
 mod cell_ids;
 #[cfg(test)]
@@ -13,11 +16,33 @@ mod deltas;
 #[cfg(test)]
 mod devectors;
 #[cfg(test)]
+mod frames;
+#[cfg(test)]
+mod histories;
+#[cfg(test)]
 mod launch_faults;
+#[cfg(test)]
+mod links;
 #[cfg(test)]
 mod member_sets;
 #[cfg(test)]
+mod model_lines;
+#[cfg(test)]
+mod parse;
+#[cfg(test)]
+mod parse_frames;
+#[cfg(test)]
+mod parse_operations;
+#[cfg(test)]
+mod replica_lines;
+#[cfg(test)]
+mod replicas;
+#[cfg(test)]
+mod restores;
+#[cfg(test)]
 mod shared;
+#[cfg(test)]
+mod steps;
 #[cfg(test)]
 mod totals;
 #[cfg(test)]

@@ -35,13 +35,15 @@ fn penalty_of(set: &MemberSet, dot: Dot) -> Option<u32> {
 // Asserts what is known of a dot.
 fn assert_state(rt: &impl Abort, set: &MemberSet, told: ToldDot, state: State) {
     let dot = dot(rt, told);
-    assert!(rt; set.context().contains(dot) == state.0);
-    assert!(rt; set.live(dot).is_some() == state.1.is_some());
-    assert!(rt; penalty_of(set, dot) == state.1);
+    assert!(*rt; set.context().contains(dot) == state.0);
+    assert!(*rt; set.live(dot).is_some() == state.1.is_some());
+    assert!(*rt; penalty_of(set, dot) == state.1);
 }
 
 fn assert_there(rt: &impl Abort, set: &MemberSet, of: ToldMember, wanted: bool) {
-    assert!(rt; set.contains(&member(rt, of)) == wanted);
+    let member = member(rt, of);
+    assert!(*rt; set.contains(&member) == wanted);
+    drop(member);
 }
 
 // Does a change, and asserts what it gives, and what is known of the first and of the second dot then. The first dot is of SIP/1, and no
@@ -54,12 +56,12 @@ fn assert_change(
     first: State,
     second: State,
 ) {
-    assert!(rt; do_change(rt, set, change) == given);
+    assert!(*rt; do_change(rt, set, change) == given);
     assert_state(rt, set, FIRST, first);
     assert_state(rt, set, SECOND, second);
     assert_there(rt, set, SIP_1, first.1.is_some());
     assert_there(rt, set, SIP_2, false);
-    assert!(rt; set.cells() == usize::from(first.1.is_some()) && set.retired() == 0);
+    assert!(*rt; set.cells() == usize::from(first.1.is_some()) && set.retired() == 0);
 }
 
 // Asserts what changes of an empty set give.
@@ -128,7 +130,7 @@ fn kill_dots(rt: &impl Abort, set: &mut MemberSet, site: u16, first: u64, dots: 
 // Asserts whether each of these dots is in a context.
 fn assert_contains(rt: &impl Abort, context: &Context, dots: &[ToldDot], wanted: bool) {
     for told in dots {
-        assert!(rt; context.contains(dot(rt, *told)) == wanted);
+        assert!(*rt; context.contains(dot(rt, *told)) == wanted);
     }
 }
 
@@ -144,7 +146,7 @@ fn assert_seen(
 ) {
     let given = [dot(rt, given[0]), dot(rt, given[1])];
     let seen = set.seen_below(&given).expect(rt, "memory");
-    assert!(rt; seen.runs() == runs);
+    assert!(*rt; seen.runs() == runs);
     assert_contains(rt, &seen, these, true);
     assert_contains(rt, &seen, those, false);
     drop(seen);
@@ -205,28 +207,30 @@ fn assert_all_seen(rt: &impl Abort, set: &MemberSet) {
 fn assert_dots(rt: &impl Abort, set: &MemberSet) {
     let sip = member(rt, SIP_2);
     let mut dots = set.dots(&sip);
-    assert!(rt; dots.next() == Some(dot(rt, FIRST)));
-    assert!(rt; dots.next() == Some(dot(rt, OTHER)));
-    assert!(rt; dots.next().is_none());
+    assert!(*rt; dots.next() == Some(dot(rt, FIRST)));
+    assert!(*rt; dots.next() == Some(dot(rt, OTHER)));
+    assert!(*rt; dots.next().is_none());
 }
 
 // Asserts the row of SIP/2, which is for equal stamps that of the least dot.
 fn assert_row(rt: &impl Abort, set: &MemberSet) {
     let sip = member(rt, SIP_2);
     let row = set.row(&sip).expect(rt, "a row");
-    assert!(rt; row.penalty == 7 && !row.paused && row.name.is_empty() && row.ring);
+    assert!(*rt; row.penalty == 7 && !row.paused && row.name.is_empty() && row.ring);
+    drop(sip);
 }
 
 // Asserts that SIP/3 has no row.
 fn assert_no_row(rt: &impl Abort, set: &MemberSet) {
     let sip = member(rt, "SIP/3");
-    assert!(rt; set.row(&sip).is_none());
+    assert!(*rt; set.row(&sip).is_none());
+    drop(sip);
 }
 
 // Asserts the dead dots of site 0.
 fn assert_dead(rt: &impl Abort, set: &MemberSet) {
     let dead = set.dead_of(site(rt, 0)).expect(rt, "memory");
-    assert!(rt; dead.contains(dot(rt, SECOND)) && dead.runs() == 1);
+    assert!(*rt; dead.contains(dot(rt, SECOND)) && dead.runs() == 1);
     drop(dead);
 }
 
@@ -234,7 +238,7 @@ fn assert_dead(rt: &impl Abort, set: &MemberSet) {
 fn assert_live(rt: &impl Abort, alloc: Global, set: &MemberSet) {
     let mut three = Context::new(alloc);
     three.insert_run(site(rt, 0), 1, 3).expect(rt, "room");
-    assert!(rt; set.live_without(&three) == 1);
+    assert!(*rt; set.live_without(&three) == 1);
     drop(three);
 }
 
@@ -275,9 +279,9 @@ fn assert_refused(
     before: &MemberSet,
     other_before: &MemberSet,
 ) {
-    assert!(rt; fault == JoinFault::Memory);
-    assert!(rt; set.same(before));
-    assert!(rt; back.same(other_before));
+    assert!(*rt; fault == JoinFault::Memory);
+    assert!(*rt; set.same(before));
+    assert!(*rt; back.same(other_before));
     drop(back);
 }
 
@@ -300,7 +304,7 @@ fn is_joined(
 
 // Prints a word on a line of its own.
 fn print(rt: &(impl Abort + Print), word: &str) {
-    assert!(rt; println!(rt; "{word}").is_ok());
+    assert!(*rt; println!(rt; "{word}").is_ok());
 }
 
 // Joins a set, with ample memory or not, and prints how that ended.

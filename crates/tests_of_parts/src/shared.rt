@@ -75,7 +75,12 @@ pub(crate) fn do_change(
 ) -> Result<(), JoinFault> {
     match told {
         Assert(of, by, time, number) => {
-            set.assert(dot(rt, of), &member(rt, by), &fields(rt, time, number))
+            let member = member(rt, by);
+            let fields = fields(rt, time, number);
+            let given = set.assert(dot(rt, of), &member, &fields);
+            drop(member);
+            drop(fields);
+            given
         }
         Kill(of) => set.kill(dot(rt, of)),
     }

@@ -6,12 +6,12 @@ use std::process::Abort;
 // Asserts how many calls a site has completed and abandoned in a queue.
 fn assert_of(rt: &impl Abort, totals: &Totals, number: u16, queue: u16, want: (u64, u64)) {
     let counted = totals.of(site(rt, number), queue);
-    assert!(rt; counted.completed == want.0 && counted.abandoned == want.1);
+    assert!(*rt; counted.completed == want.0 && counted.abandoned == want.1);
 }
 
 // Counts one more call of site 0 in queue 2.
 fn raise(rt: &impl Abort, totals: &mut Totals, calls: Calls, want: Result<u64, TotalFault>) {
-    assert!(rt; totals.raise(site(rt, 0), 2, calls) == want);
+    assert!(*rt; totals.raise(site(rt, 0), 2, calls) == want);
 }
 
 #[test]
@@ -39,15 +39,15 @@ fn a_total_is_raised_up_to_its_limit(rt: HostRuntime) {
 
 // Joins other totals in.
 fn join(rt: &impl Abort, totals: &mut Totals, other: &Totals) {
-    assert!(rt; totals.join(other).is_ok());
+    assert!(*rt; totals.join(other).is_ok());
 }
 
 // Asserts that sites 0 and 1 have completed three and four calls in queue 0, and none in queue 1.
 fn assert_three_and_four(rt: &impl Abort, totals: &Totals) {
     assert_of(rt, totals, 0, 0, (3, 0));
     assert_of(rt, totals, 1, 0, (4, 0));
-    assert!(rt; totals.sum(0).completed == 7 && totals.sum(0).abandoned == 0);
-    assert!(rt; totals.sum(1).completed == 0 && totals.sum(1).abandoned == 0);
+    assert!(*rt; totals.sum(0).completed == 7 && totals.sum(0).abandoned == 0);
+    assert!(*rt; totals.sum(1).completed == 0 && totals.sum(1).abandoned == 0);
 }
 
 #[test]

@@ -6,11 +6,11 @@ use std::process::Abort;
 const GREATEST: u64 = 1_099_511_627_776;
 
 fn assert_site(rt: &impl Abort, number: u16, is_site: bool) {
-    assert!(rt; SiteId::new(number).is_some() == is_site);
+    assert!(*rt; SiteId::new(number).is_some() == is_site);
 }
 
 fn assert_penalty(rt: &impl Abort, number: u32, is_penalty: bool) {
-    assert!(rt; Penalty::new(number).is_some() == is_penalty);
+    assert!(*rt; Penalty::new(number).is_some() == is_penalty);
 }
 
 #[test]
@@ -27,8 +27,8 @@ fn sites_and_penalties_have_limits(rt: HostRuntime) {
 // Asserts whether a number is a count of a dot, and a time of a stamp.
 fn assert_count(rt: &impl Abort, number: u64, is_count: bool) {
     let site = site(rt, 63);
-    assert!(rt; Dot::new(site, number).is_some() == is_count);
-    assert!(rt; Stamp::new(number, site).is_some() == is_count);
+    assert!(*rt; Dot::new(site, number).is_some() == is_count);
+    assert!(*rt; Stamp::new(number, site).is_some() == is_count);
 }
 
 #[test]
@@ -46,9 +46,9 @@ fn assert_faults(
     text_fault: Option<TextFault>,
     name_fault: Option<TextFault>,
 ) {
-    assert!(rt; Text80::new(bytes).err() == text_fault);
-    assert!(rt; Interface::new(bytes).err() == name_fault);
-    assert!(rt; QueueName::new(bytes).err() == name_fault);
+    assert!(*rt; Text80::new(bytes).err() == text_fault);
+    assert!(*rt; Interface::new(bytes).err() == name_fault);
+    assert!(*rt; QueueName::new(bytes).err() == name_fault);
 }
 
 #[test]
@@ -71,8 +71,14 @@ fn lunch(rt: &impl Abort) -> Text80 {
 
 #[test]
 fn only_a_pause_has_a_reason(rt: HostRuntime) {
-    let paused = Pause::new(true, lunch(&rt)).copy();
+    let pause = Pause::new(true, lunch(&rt));
+    let paused = pause.copy();
+    drop(pause);
     assert!(rt; paused.paused() && paused.reason().as_bytes() == b"lunch".as_slice());
-    let unpaused = Pause::new(false, lunch(&rt)).copy();
+    drop(paused);
+    let pause = Pause::new(false, lunch(&rt));
+    let unpaused = pause.copy();
+    drop(pause);
     assert!(rt; !unpaused.paused() && unpaused.reason().is_empty());
+    drop(unpaused);
 }

@@ -11,18 +11,18 @@ use std::time::{Clock, Duration};
 
 // The bytes to send, and those that must be read after them.
 #[derive(Clone, Copy)]
-struct Exchange {
-    sent: &'static str,
+pub(crate) struct Exchange {
+    pub(crate) sent: &'static str,
     read: &'static str,
 }
 
 // Nothing is sent, and the greeting is read.
-const GREETING: Exchange = Exchange {
+pub(crate) const GREETING: Exchange = Exchange {
     sent: "",
     read: replies::GREETING,
 };
 
-const LOGIN: Exchange = Exchange {
+pub(crate) const LOGIN: Exchange = Exchange {
     sent: "Action: Login\r\nUsername: admin\r\nSecret: s3\r\n\r\n",
     read: replies::ACCEPTED,
 };
@@ -40,7 +40,7 @@ const EARLY_ADD: Exchange = Exchange {
 };
 
 // An add to `sales`.
-const ADD: Exchange = Exchange {
+pub(crate) const ADD: Exchange = Exchange {
     sent: "Action: QueueAdd\r\nQueue: sales\r\nInterface: SIP/1\r\n\r\n",
     read: replies::ADDED,
 };
@@ -67,14 +67,14 @@ const PATIENCE: u64 = 20;
 const ASKS: u32 = 999;
 
 // A stream to this port; connects again until the server listens.
-fn connected<R: Net<Listener = TcpListener, Stream = TcpStream> + Abort>(
+pub(crate) fn connected<R: Net<Listener = TcpListener, Stream = TcpStream> + Abort>(
     rt: &R,
     port: u16,
 ) -> TcpStream {
     for _ in 0..TRIES {
         if let Ok(stream) = TcpStream::connect(rt, SocketAddr::from((HERE, port))) {
             let patience = Some(Duration::from_secs(PATIENCE));
-            assert!(rt; stream.set_read_timeout(patience).is_ok());
+            assert!(*rt; stream.set_read_timeout(patience).is_ok());
             return stream;
         }
         yield_now();
@@ -82,23 +82,23 @@ fn connected<R: Net<Listener = TcpListener, Stream = TcpStream> + Abort>(
     rt.panic("no connection")
 }
 
-fn send(rt: &impl Abort, stream: &TcpStream, bytes: &[u8]) {
+pub(crate) fn send(rt: &impl Abort, stream: &TcpStream, bytes: &[u8]) {
     let mut writer = stream;
-    assert!(rt; writer.write_all(bytes).is_ok());
+    assert!(*rt; writer.write_all(bytes).is_ok());
 }
 
 // Reads exactly these bytes.
 fn read(rt: &impl Abort, stream: &TcpStream, bytes: &[u8]) {
     let mut piece = [0u8; 1024];
     let count = bytes.len();
-    assert!(rt; count <= 1024);
+    assert!(*rt; count <= 1024);
     let mut reader = stream;
-    assert!(rt; reader.read_exact(&mut piece[..count]).is_ok());
-    assert!(rt; piece.starts_with(bytes));
+    assert!(*rt; reader.read_exact(&mut piece[..count]).is_ok());
+    assert!(*rt; piece.starts_with(bytes));
 }
 
 // Sends and reads, one exchange after another.
-fn talk(rt: &impl Abort, stream: &TcpStream, exchanges: &[Exchange]) {
+pub(crate) fn talk(rt: &impl Abort, stream: &TcpStream, exchanges: &[Exchange]) {
     for exchange in exchanges {
         send(rt, stream, exchange.sent.as_bytes());
         read(rt, stream, exchange.read.as_bytes());
@@ -106,10 +106,10 @@ fn talk(rt: &impl Abort, stream: &TcpStream, exchanges: &[Exchange]) {
 }
 
 // The stream ends here.
-fn assert_ends(rt: &impl Abort, stream: &TcpStream) {
+pub(crate) fn assert_ends(rt: &impl Abort, stream: &TcpStream) {
     let mut piece = [0u8; 1];
     let mut reader = stream;
-    assert!(rt; matches!(reader.read(&mut piece), Ok(0)));
+    assert!(*rt; matches!(reader.read(&mut piece), Ok(0)));
 }
 
 // The stream ends after these exchanges.
@@ -179,7 +179,10 @@ fn hold_session<R: Net<Listener = TcpListener, Stream = TcpStream> + Abort>(
 }
 
 // A session with each of two sites. The first gets an add.
-fn tell_one_of_two<R: Net<Listener = TcpListener, Stream = TcpStream> + Abort>(rt: &R, port: u16) {
+pub(crate) fn tell_one_of_two<R: Net<Listener = TcpListener, Stream = TcpStream> + Abort>(
+    rt: &R,
+    port: u16,
+) {
     hold_session(rt, port, &[GREETING, LOGIN, ADD, LOGOFF]);
     hold_session(rt, port.saturating_add(1), &[GREETING, LOGIN, LOGOFF]);
 }
@@ -233,7 +236,7 @@ fn add<R: Net<Listener = TcpListener, Stream = TcpStream> + Abort>(
     is_in: &AtomicBool,
     is_done: &AtomicBool,
 ) {
-    assert!(rt; sees(is_in));
+    assert!(*rt; sees(is_in));
     hold_session(rt, port, &[GREETING, LOGIN, ADD, LOGOFF]);
     is_done.store(true, Ordering::SeqCst);
 }
@@ -251,7 +254,7 @@ fn meet<R: Net<Listener = TcpListener, Stream = TcpStream> + Abort + Threads + S
         move || see(rt, port, is_in, is_done),
         move || add(rt, port, is_in, is_done),
     );
-    assert!(rt; saw);
+    assert!(*rt; saw);
 }
 
 /// What the clients of a server do.

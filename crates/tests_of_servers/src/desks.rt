@@ -2,7 +2,7 @@
 ghost use Rattle.std.specs.Prelude.{◌≡◌};
 ghost use Rattle.site_journal.specs.Journals.{IsOfSite};
 
-use crate::shared::{replica, whole_status};
+use crate::shared::{replica, status};
 use dots::SiteId;
 use pass_desk::{Ear, PassDesk, RingingDesk, SiteBell};
 use replica::Refusal;
@@ -15,7 +15,7 @@ use std::marker::Brand;
 use std::process::Abort;
 use std::sync::Wait;
 use std::sync::ledger::Blank;
-use std::time::Clock;
+use std::time::{Clock, Duration, Instant};
 
 // The journal of new site 0, which holds at most `limit` steps.
 fn journal(rt: &impl Abort, alloc: Global, limit: u32) -> Journaled
@@ -29,10 +29,6 @@ fn journal(rt: &impl Abort, alloc: Global, limit: u32) -> Journaled
     }
 }
 
-fn status(alloc: Global) -> Ask {
-    Ask::Status(whole_status(alloc))
-}
-
 // Asks a number of times, and gets a report each time.
 fn assert_answers<L: SiteLedger, R: Abort + Wait>(
     rt: &R,
@@ -42,7 +38,7 @@ fn assert_answers<L: SiteLedger, R: Abort + Wait>(
 ) {
     for _ in 0..times {
         let answered = desk.ask(rt, status(alloc));
-        assert!(rt; matches!(answered, Ok(Answer::Report(_))));
+        assert!(*rt; matches!(answered, Ok(Answer::Report(_))));
         drop(answered);
     }
 }
@@ -101,8 +97,8 @@ fn assert_asked<R: Abort + Wait>(
 ) {
     let journal = journal(rt, alloc, limit);
     let (dropped, journal) = asked::<Brand, R>(rt, alloc, Blank::new(1), journal, times, bytes);
-    assert!(rt; dropped == drops);
-    assert!(rt; journal.start() == start && journal.len() == u64::from(times));
+    assert!(*rt; dropped == drops);
+    assert!(*rt; journal.start() == start && journal.len() == u64::from(times));
     drop(journal);
 }
 
@@ -141,8 +137,14 @@ impl<R> Desk<R> for ShortDesk {
     }
 }
 
-// Asks twice at a desk that rings. Returns whether a ring was received, which is once at most.
-fn hears(rt: &(impl Abort + Wait + Clock), alloc: Global, refusals: u32, deeds: u32) -> bool {
+// Asks twice at a desk that rings. Asserts whether a ring was received, which is once at most.
+fn assert_hears(
+    rt: &(impl Abort + Wait + Clock),
+    alloc: Global,
+    refusals: u32,
+    deeds: u32,
+    wanted: bool,
+) {
     let bell = SiteBell::new();
     let mut desk = RingingDesk::new(ShortDesk { refusals, deeds }, &bell);
     for _ in 0..2u32 {
@@ -150,16 +152,17 @@ fn hears(rt: &(impl Abort + Wait + Clock), alloc: Global, refusals: u32, deeds: 
     }
     bell.end(rt);
     let mut ear = Ear::new(&bell);
-    let heard = ear.wait(rt);
-    assert!(rt; !ear.wait(rt) && ear.has_bell_ended());
-    heard
+    assert!(*rt; ear.wait(rt) == wanted);
+    assert!(*rt; !ear.wait(rt) && ear.has_bell_ended());
 }
 
 #[test]
 fn a_desk_rings_at_each_answer_alone(rt: HostRuntime) {
-    for (refusals, deeds, heard) in [(0, 0, false), (1, 0, true), (0, 1, true), (1, 1, true)] {
-        assert!(&rt; hears(&rt, rt.alloc(), refusals, deeds) == heard);
-    }
+    let alloc = rt.alloc();
+    assert_hears(&rt, alloc, 0, 0, false);
+    assert_hears(&rt, alloc, 1, 0, true);
+    assert_hears(&rt, alloc, 0, 1, true);
+    assert_hears(&rt, alloc, 1, 1, true);
 }
 
 #[test]
@@ -168,19 +171,34 @@ fn a_whole_is_due_while_a_peer_is_behind(rt: HostRuntime) {
     let bell = SiteBell::new();
     let mut ear = Ear::new(&bell);
     bell.ring(&rt);
-    assert!(&rt; ear.wait(&rt));
+    assert!(rt; ear.wait(&rt));
     // A peer that is not behind needs no whole.
     bell.hurry(&rt, peer);
     bell.fall_behind(&rt, peer);
-    assert!(&rt; ear.wait(&rt));
-    assert!(&rt; !ear.wait(&rt) && !ear.has_bell_ended());
+    assert!(rt; ear.wait(&rt));
+    assert!(rt; !ear.wait(&rt) && !ear.has_bell_ended());
     ear.begin_round(&rt);
     bell.ring(&rt);
-    assert!(&rt; ear.wait(&rt));
+    assert!(rt; ear.wait(&rt));
     bell.hurry(&rt, peer);
-    assert!(&rt; !ear.wait(&rt) && !ear.has_bell_ended());
+    assert!(rt; !ear.wait(&rt) && !ear.has_bell_ended());
     ear.begin_round(&rt);
     bell.catch_up(&rt, peer);
+    bell.end(&rt);
+    assert!(rt; !ear.wait(&rt) && ear.has_bell_ended());
+}
+
+#[test]
+fn an_ear_that_rests_hears_a_ring_a_millisecond_after_another(rt: HostRuntime) {
+    let bell = SiteBell::new();
+    let mut ear = Ear::resting(&bell);
+    bell.ring(&rt);
+    assert!(&rt; ear.wait(&rt));
+    bell.ring(&rt);
+    let begun = Instant::now(&rt).expect(&rt, "a clock");
+    assert!(&rt; ear.wait(&rt));
+    let passed = begun.elapsed(&rt).expect(&rt, "a clock");
+    assert!(&rt; passed >= Duration::from_millis(1));
     bell.end(&rt);
     assert!(&rt; !ear.wait(&rt) && ear.has_bell_ended());
 }

@@ -36,7 +36,9 @@ fn add(rt: &impl Abort) -> Command {
 
 // The frame of a site that has added SIP/1.
 fn added(rt: &impl Abort, site: &mut Replica) -> Frame {
-    site.command(&add(rt)).expect(rt, "it is added");
+    let command = add(rt);
+    site.command(&command).expect(rt, "it is added");
+    drop(command);
     let cut = site.cut().expect(rt, "a number is left");
     cut.expect(rt, "there is a change")
 }
@@ -46,7 +48,8 @@ fn what_one_replica_does_the_other_takes(rt: HostRuntime) {
     let alloc = rt.alloc();
     let mut first = Replica::new(alloc, site(&rt, 0), list(&rt, alloc));
     let mut second = Replica::new(alloc, site(&rt, 1), list(&rt, alloc));
-    assert!(rt; second.take(added(&rt, &mut first)).is_ok());
+    let frame = added(&rt, &mut first);
+    second.take(frame).ok().expect(&rt, "it is taken");
     assert!(rt; second.rows(0).next().is_some());
     drop(first);
     drop(second);
@@ -55,15 +58,19 @@ fn what_one_replica_does_the_other_takes(rt: HostRuntime) {
 #[test]
 fn what_one_site_of_a_world_does_the_other_takes(rt: HostRuntime) {
     let alloc = rt.alloc();
-    let mut world = World::new(alloc, 2, &list(&rt, alloc)).expect(&rt, "a world");
+    let queues = list(&rt, alloc);
+    let mut world = World::new(alloc, 2, &queues).expect(&rt, "a world");
+    drop(queues);
     let (first, second) = (site(&rt, 0), site(&rt, 1));
-    let outcomes = world.run(&[Event::Ask(first, Ask::Command(add(&rt))), Event::Cut(first)]);
-    let outcomes = outcomes.expect(&rt, "memory");
+    let events = [Event::Ask(first, Ask::Command(add(&rt))), Event::Cut(first)];
+    let outcomes = world.run(&events).expect(&rt, "memory");
+    drop(events);
     assert!(rt; matches!(outcomes.last(), Some(Outcome::Cut(Ok(Some(0))))));
+    drop(outcomes);
     let taken = world.happen(Event::Take(second, 0));
     assert!(rt; matches!(taken, Outcome::Took(Ok(()))));
+    drop(taken);
     let replica = world.replica(second).expect(&rt, "a replica");
     assert!(rt; replica.rows(0).next().is_some());
-    drop(outcomes);
     drop(world);
 }

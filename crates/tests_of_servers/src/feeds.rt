@@ -5,8 +5,8 @@ use std::alloc::Global;
 use std::process::Abort;
 
 // Feeds a piece, for which there is memory.
-fn feed_all(rt: &impl Abort, feed: &mut Feed, piece: &[u8]) {
-    assert!(rt; feed.feed(piece).is_ok());
+pub(crate) fn feed_all(rt: &impl Abort, feed: &mut Feed, piece: &[u8]) {
+    assert!(*rt; feed.feed(piece).is_ok());
 }
 
 // A number of lines, none of them empty.
@@ -20,10 +20,8 @@ fn lines(rt: &impl Abort, alloc: Global, number: usize) -> Vec<u8> {
 
 // Asserts that the next result of a feed is this fault.
 fn assert_fault(rt: &impl Abort, feed: &mut Feed, want: FeedFault) {
-    match feed.next_message() {
-        Ok(_) => rt.panic("no fault"),
-        Err(fault) => assert!(rt; fault == want),
-    }
+    let fault = feed.next_message().err();
+    assert!(*rt; fault == Some(want));
 }
 
 // Asserts that bytes give a fault, and give it again whatever is fed after them.
@@ -46,16 +44,24 @@ fn a_fault_stays_whatever_is_fed(rt: HostRuntime) {
     assert_fault_stays(&rt, rt.alloc(), &long, FeedFault::LineTooLong);
 }
 
-// Whether a feed has no message, and no fault.
-fn has_none(feed: &mut Feed) -> bool {
-    matches!(feed.next_message(), Ok(None))
+// The next message of a feed that has no fault, if there is one.
+pub(crate) fn next(rt: &impl Abort, feed: &mut Feed) -> Option<Message> {
+    feed.next_message().expect(rt, "no fault")
+}
+
+// Asserts that a feed has no message.
+fn assert_none(rt: &impl Abort, feed: &mut Feed) {
+    let next = next(rt, feed);
+    let is_none = next.is_none();
+    drop(next);
+    assert!(*rt; is_none);
 }
 
 // Feeds a full line, one byte at a time, which ends no message.
 fn feed_line(rt: &impl Abort, feed: &mut Feed) {
     for _ in 0..1024u32 {
         feed_all(rt, feed, b"x");
-        assert!(rt; has_none(feed));
+        assert_none(rt, feed);
     }
     feed_all(rt, feed, b"\n");
 }
@@ -66,7 +72,7 @@ fn feed_message(rt: &impl Abort, feed: &mut Feed) {
         feed_line(rt, feed);
     }
     feed_all(rt, feed, b"\n");
-    assert!(rt; matches!(feed.next_message(), Ok(Some(_))));
+    drop(next(rt, feed).expect(rt, "a message"));
 }
 
 // Sixteen messages, one byte at a time: quadratic time would not end in time.
@@ -82,8 +88,8 @@ fn bytes_are_looked_at_once(rt: HostRuntime) {
 // Asserts the value of a name in a message; if `value` is empty, it has none.
 fn assert_value(rt: &impl Abort, message: &Message, name: &[u8], value: &[u8]) {
     match message.get(name) {
-        Some(got) => assert!(rt; !got.is_empty() && *got == *value),
-        None => assert!(rt; value.is_empty()),
+        Some(got) => assert!(*rt; !got.is_empty() && *got == *value),
+        None => assert!(*rt; value.is_empty()),
     }
 }
 
@@ -110,14 +116,13 @@ const VALUES: &[(&str, &str)] = &[("action", "QueueStatus"), ("x", ""), ("y", "z
 
 // The next message. Retries if memory is refused, and then sets `is_refused`.
 fn next_message(rt: &impl Abort, feed: &mut Feed, is_refused: &mut bool) -> Message {
-    let next = match feed.next_message() {
-        Err(FeedFault::Memory) => {
-            *is_refused = true;
-            feed.next_message()
+    for _ in 0..2u32 {
+        match feed.next_message() {
+            Err(FeedFault::Memory) => *is_refused = true,
+            next => return next.expect(rt, "no fault").expect(rt, "a message"),
         }
-        next => next,
-    };
-    next.expect(rt, "no fault").expect(rt, "a message")
+    }
+    rt.panic("no memory")
 }
 
 // Asserts the value of a name in each message. Sets `is_refused` if memory is refused.
@@ -138,7 +143,7 @@ fn a_feed_gives_the_same_messages_when_memory_comes_later(rt: HostRuntime) {
     let mut is_refused = false;
     feed_pieces(&rt, &mut feed, &mut is_refused);
     assert_values(&rt, &mut feed, &mut is_refused);
-    assert!(rt; has_none(&mut feed));
+    assert_none(&rt, &mut feed);
     drop(feed);
     let end = if is_refused { "again" } else { "at once" };
     assert!(rt; println!(rt; "{end}").is_ok());

@@ -1,5 +1,5 @@
 //! Tests of feeds and devices, lists of queues, reports, replies, sessions that are served, desks for sessions, worlds of sites, scripts,
-//! and sites that are served over TCP, by their public calls. This crate has no code of its own.
+//! sites that are served over TCP, and their links, by their public calls. This crate has no code of its own.
 #![tactic(auto)]
 
 #[cfg(test)]
@@ -14,6 +14,8 @@ mod feeds;
 mod lists;
 #[cfg(test)]
 mod logs;
+#[cfg(test)]
+mod peers;
 #[cfg(test)]
 mod replies;
 #[cfg(test)]

@@ -15,7 +15,7 @@ fn add(rt: &impl Wait, alloc: Global, events: &EventLog, lines: usize) {
 fn assert_line(rt: &(impl Wait + Abort), events: &EventLog, text: &str) {
     match events.next(rt) {
         LogEvent::Line(line) => {
-            assert!(rt; line.as_str() == text);
+            assert!(*rt; line.as_str() == text);
             drop(line);
         }
         LogEvent::Dropped(_) | LogEvent::End => rt.panic("no line"),
@@ -30,17 +30,17 @@ fn a_full_log_drops_lines_and_says_how_many(rt: HostRuntime) {
     assert_line(&rt, &events, "line 0");
     for _ in 1..MOST_LINES {
         let event = events.next(&rt);
-        assert!(&rt; matches!(&event, LogEvent::Line(_)));
+        assert!(rt; matches!(&event, LogEvent::Line(_)));
         drop(event);
     }
     let event = events.next(&rt);
-    assert!(&rt; matches!(&event, LogEvent::Dropped(2)));
+    assert!(rt; matches!(&event, LogEvent::Dropped(2)));
     drop(event);
     add(&rt, alloc, &events, 1);
     events.end(&rt);
     assert_line(&rt, &events, "line 0");
     let event = events.next(&rt);
-    assert!(&rt; matches!(&event, LogEvent::End));
+    assert!(rt; matches!(&event, LogEvent::End));
     drop(event);
     drop(events);
 }
@@ -53,7 +53,7 @@ fn a_line_without_memory_is_dropped_and_counted(rt: HostRuntime) {
     add(&rt, alloc, &events, 1);
     assert_line(&rt, &events, "line 0");
     let event = events.next(&rt);
-    assert!(&rt; matches!(&event, LogEvent::Dropped(1)));
+    assert!(rt; matches!(&event, LogEvent::Dropped(1)));
     drop(event);
     drop(events);
 }

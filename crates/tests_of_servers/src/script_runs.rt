@@ -55,8 +55,8 @@ fn assert_run(
     let mut writer = MemorySink::failing(alloc, write.most, write.calls);
     let end = end_of(rt, alloc, &mut reader, &mut writer);
     drop(reader);
-    assert!(rt; end == wanted);
-    assert!(rt; writer.as_slice() == written.as_bytes());
+    assert!(*rt; end == wanted);
+    assert!(*rt; writer.as_slice() == written.as_bytes());
     drop(writer);
 }
 

@@ -98,7 +98,7 @@ fn end_of_failing(
         answers,
     };
     let served = serve_session(alloc, &mut reader, &mut writer, login(rt), &mut tired);
-    assert!(rt; is_front(writer.as_slice(), &TEXTS));
+    assert!(*rt; is_front(writer.as_slice(), &TEXTS));
     drop(tired);
     let written = writer.as_slice().len();
     drop(writer);
@@ -126,7 +126,7 @@ fn assert_end(
 ) {
     let stream = SESSION.as_bytes();
     let (end, written) = end_of_failing(rt, alloc, stream, reads, (most, writes), answers);
-    assert!(rt; end == wanted && least <= written && written <= greatest);
+    assert!(*rt; end == wanted && least <= written && written <= greatest);
 }
 
 // Asserts how a session ends whose reader fails after a number of reads, from the first to below the second.
@@ -192,15 +192,24 @@ fn a_session_ends_with_the_fault_of_its_devices_or_its_desk(rt: HostRuntime) {
     assert_down(&rt, alloc, 1, 143);
 }
 
+// Asserts how a session of a number of empty lines ends, which are read byte by byte.
+fn assert_end_of_lines(
+    rt: &impl Abort,
+    alloc: Global,
+    lines: usize,
+    wanted: Result<(), ServeFault>,
+) {
+    let stream = vec![in alloc; b'\n'; lines].expect(rt, "memory");
+    let ended = end_of_failing(rt, alloc, &stream, u64::MAX, (700, u64::MAX), 0);
+    drop(stream);
+    assert!(*rt; ended == (wanted, GREETING.len()));
+}
+
 #[test]
 fn a_session_reads_a_million_times_at_most(rt: HostRuntime) {
     // The last read of 1,000,000 may return the end.
-    for (lines, end) in [(999_999, Ok(())), (1_000_000, Err(ServeFault::Turns))] {
-        let stream = vec![in rt.alloc(); b'\n'; lines].expect(&rt, "memory");
-        let ended = end_of_failing(&rt, rt.alloc(), &stream, u64::MAX, (700, u64::MAX), 0);
-        drop(stream);
-        assert!(rt; ended == (end, GREETING.len()));
-    }
+    assert_end_of_lines(&rt, rt.alloc(), 999_999, Ok(()));
+    assert_end_of_lines(&rt, rt.alloc(), 1_000_000, Err(ServeFault::Turns));
 }
 
 // A sink that takes all bytes, and counts them.
@@ -222,13 +231,12 @@ impl<'a> Sink for CountingSink<'a> {
 
 // The number of bytes due after `read` bytes of the session: the greeting, and a reply for each whole message.
 fn due(read: usize) -> usize {
-    let mut written = 0;
-    for (from, bytes) in [(0, 32), (46, 87), (93, 143), (114, 509)] {
-        if from <= read {
-            written = bytes;
-        }
+    match read {
+        0..=45 => 32,
+        46..=92 => 87,
+        93..=113 => 143,
+        _ => 509,
     }
-    written
 }
 
 // A source that reads how many bytes a sink has taken, and records whether, at each read, these were the bytes due.
@@ -259,8 +267,8 @@ impl<'a> Source for SeeingSource<'a> {
     }
 }
 
-// Whether a session is served in pieces of `most` bytes by at most `reads` reads, and all that is due is written before each of them.
-fn is_prompt(rt: &impl Abort, alloc: Global, most: usize, reads: u64) -> bool {
+// Asserts that a session is served in pieces of `most` bytes by at most `reads` reads, and all that is due is written before each of them.
+fn assert_prompt(rt: &impl Abort, alloc: Global, most: usize, reads: u64) {
     let taken = Cell::new(0);
     let mut reader = SeeingSource {
         source: MemorySource::failing(SESSION.as_bytes(), most.max(1), reads),
@@ -272,15 +280,19 @@ fn is_prompt(rt: &impl Abort, alloc: Global, most: usize, reads: u64) -> bool {
     let mut desk = desk(rt, alloc);
     let served = serve_session(alloc, &mut reader, &mut writer, login(rt), &mut desk);
     drop(desk);
-    served == Ok(()) && reader.is_prompt && taken.get() == 565
+    assert!(*rt; served == Ok(()) && reader.is_prompt && taken.get() == 565);
 }
 
 #[test]
 fn all_that_is_due_is_written_before_each_read(rt: HostRuntime) {
+    let alloc = rt.alloc();
     // The session has 132 bytes.
-    for (most, reads) in [(1, 132), (2, 66), (46, 3), (47, 3), (100, 2), (1_024, 1)] {
-        assert!(rt; is_prompt(&rt, rt.alloc(), most, reads));
-    }
+    assert_prompt(&rt, alloc, 1, 132);
+    assert_prompt(&rt, alloc, 2, 66);
+    assert_prompt(&rt, alloc, 46, 3);
+    assert_prompt(&rt, alloc, 47, 3);
+    assert_prompt(&rt, alloc, 100, 2);
+    assert_prompt(&rt, alloc, 1_024, 1);
 }
 
 // A number of messages of one line each.
@@ -317,7 +329,7 @@ fn end_of(rt: &impl Abort, served: Result<(), ServeFault>, written: &[u8]) -> &'
     let whole = [GREETING, ADDED, REPORT];
     if let Err(fault) = served {
         let is_greeted = is_text(written, &[GREETING]);
-        assert!(rt;
+        assert!(*rt;
             fault == ServeFault::Memory && (is_greeted || is_text(written, &[GREETING, ADDED]))
         );
         return "fault";
@@ -325,7 +337,7 @@ fn end_of(rt: &impl Abort, served: Result<(), ServeFault>, written: &[u8]) -> &'
     if is_text(written, &whole) {
         return "whole";
     }
-    assert!(rt;
+    assert!(*rt;
         is_text(written, &[GREETING, WANTING, EMPTY_REPORT])
             || is_text(written, &[GREETING, ADDED, WANTING])
     );

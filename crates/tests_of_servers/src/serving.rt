@@ -99,8 +99,8 @@ pub fn settings(
     }
 }
 
-// A log of events that no test reads.
-fn events(rt: &impl Abort, alloc: Global) -> Arc<EventLog, Global> {
+/// A log of events that no test reads.
+pub fn events(rt: &impl Abort, alloc: Global) -> Arc<EventLog, Global> {
     let events = EventLog::new(alloc).expect(rt, "memory");
     Arc::new(alloc, events).expect(rt, "memory")
 }
@@ -118,9 +118,9 @@ where
     R: Net<Listener = TcpListener, Stream = TcpStream> + Abort + Threads + Wait + Clock + Sync,
 {
     let (sites, port) = (settings.sites, settings.port);
-    assert!(rt; 0 < sites && sites <= MOST_SERVED_SITES);
-    assert!(rt; 0 < port && port <= LAST_PORT);
-    assert!(rt; 0 < settings.places && settings.places <= MOST_PLACES);
+    assert!(*rt; 0 < sites && sites <= MOST_SERVED_SITES);
+    assert!(*rt; 0 < port && port <= LAST_PORT);
+    assert!(*rt; 0 < settings.places && settings.places <= MOST_PLACES);
     let mut log = MemorySink::failing(alloc, 700, writes);
     let list = list(rt, alloc, &["sales"]);
     let events = events(rt, alloc);

@@ -1,4 +1,5 @@
 //! A session's reply to each answer, also to answers that no site gives to the ask.
+use crate::feeds::{feed_all, next};
 use crate::shared::assert_text;
 use ami_session::{Act, Pending, Session};
 use ami_text::{Feed, Message};
@@ -26,9 +27,9 @@ const STATUS: &str = "Action: QueueStatus\r\nQueue: sales\r\nMember: SIP/1\r\nAc
 // The message of these lines.
 fn message(rt: &impl Abort, alloc: Global, lines: &str) -> Message {
     let mut feed = Feed::new(alloc);
-    feed.feed(lines.as_bytes()).expect(rt, "memory");
-    feed.feed(b"\r\n").expect(rt, "memory");
-    let found = feed.next_message().expect(rt, "no fault");
+    feed_all(rt, &mut feed, lines.as_bytes());
+    feed_all(rt, &mut feed, b"\r\n");
+    let found = next(rt, &mut feed);
     drop(feed);
     found.expect(rt, "a message")
 }

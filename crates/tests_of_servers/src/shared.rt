@@ -1,18 +1,18 @@
 //! What these tests share.
-use dots::{Bytes, QueueName, SiteId, Text80};
-use replica::{QueueList, Replica};
-use status_report::StatusRequest;
+use dots::{Bytes, Interface, Label, Penalty, QueueName, SiteId, Text80};
+use replica::{Command, QueueList, Replica};
+use status_report::{Ask, StatusRequest};
 use std::alloc::Global;
 use std::process::Abort;
 
 // Asserts that a value is the expected one.
 pub(crate) fn assert_same<T: PartialEq>(rt: &impl Abort, value: &T, want: &T) {
-    assert!(rt; *value == *want);
+    assert!(*rt; *value == *want);
 }
 
 // Asserts what bytes are.
 pub(crate) fn assert_bytes(rt: &impl Abort, bytes: &[u8], want: &[u8]) {
-    assert!(rt; *bytes == *want);
+    assert!(*rt; *bytes == *want);
 }
 
 pub(crate) fn text(rt: &impl Abort, text: &str) -> Text80 {
@@ -25,6 +25,28 @@ pub(crate) fn site(rt: &impl Abort, number: u16) -> SiteId {
 
 pub(crate) fn name(rt: &impl Abort, text: &[u8]) -> QueueName {
     QueueName::new(text).expect(rt, "a name")
+}
+
+pub(crate) fn sales(rt: &impl Abort) -> QueueName {
+    name(rt, b"sales")
+}
+
+pub(crate) fn interface(rt: &impl Abort, of: &str) -> Interface {
+    Interface::new(of.as_bytes()).expect(rt, "an interface")
+}
+
+// An add to the queue `sales` that sets a penalty.
+pub(crate) fn add(rt: &impl Abort, of: &str, number: u32) -> Command {
+    Command::Add {
+        queue: sales(rt),
+        interface: interface(rt, of),
+        penalty: Penalty::new(number).expect(rt, "a penalty"),
+        paused: false,
+        label: Label {
+            name: Text80::empty(),
+            state: Text80::empty(),
+        },
+    }
 }
 
 fn names(rt: &impl Abort, alloc: Global, texts: &[&str]) -> Vec<QueueName> {
@@ -57,6 +79,11 @@ pub(crate) fn whole_status(alloc: Global) -> StatusRequest {
     }
 }
 
+// The ask of the status of all queues.
+pub(crate) fn status(alloc: Global) -> Ask {
+    Ask::Status(whole_status(alloc))
+}
+
 // The rest of the bytes, if they begin with these texts in order.
 fn behind<'a>(given: &'a [u8], texts: &[&str]) -> Option<&'a [u8]> {
     let mut rest = given;
@@ -73,7 +100,7 @@ pub(crate) fn is_text(given: &[u8], texts: &[&str]) -> bool {
 
 // Asserts that bytes are these texts, one after the other.
 pub(crate) fn assert_text(rt: &impl Abort, given: &[u8], texts: &[&str]) {
-    assert!(rt; is_text(given, texts));
+    assert!(*rt; is_text(given, texts));
 }
 
 const OPENING: &str =

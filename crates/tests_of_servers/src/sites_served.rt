@@ -21,11 +21,11 @@ fn there() -> Ipv4Addr {
 }
 
 // Each journal's site shows this.
-fn assert_shows(rt: &impl Abort, alloc: Global, journals: &[Journaled], text: &str) {
+pub(crate) fn assert_shows(rt: &impl Abort, alloc: Global, journals: &[Journaled], text: &str) {
     let status = whole_status(alloc);
     for journal in journals {
         let shown = report(alloc, journal.replica(), &status).expect(rt, "memory");
-        assert!(rt; shown.as_slice() == text.as_bytes());
+        assert!(*rt; shown.as_slice() == text.as_bytes());
         drop(shown);
     }
     drop(status);
@@ -64,7 +64,7 @@ where
     R: Net<Listener = TcpListener, Stream = TcpStream> + Abort + Threads + Wait + Clock + Sync,
 {
     let port = free_port(rt, first, sites);
-    assert!(rt; port < LAST_PORT);
+    assert!(*rt; port < LAST_PORT);
     let settings = settings(rt, sites, HERE, port, limit);
     let lent = &settings;
     let (journals, _) = join(
@@ -80,10 +80,10 @@ where
 fn what_one_site_is_told_the_other_shows(rt: HostRuntime) {
     let alloc = rt.alloc();
     let journals = served_to(&rt, alloc, 24_300, 2, Limit::Usual, 1, Clients::OfTwoSites);
-    assert!(&rt; journals.len() == 2);
+    assert!(rt; journals.len() == 2);
     assert_shows(&rt, alloc, &journals, REPORT);
     // The first site got the add, and the second has taken its frame.
-    assert!(&rt; has_done(&journals[0]) && !has_done(&journals[1]));
+    assert!(rt; has_done(&journals[0]) && !has_done(&journals[1]));
     drop(journals);
 }
 
@@ -98,11 +98,11 @@ fn the_first_thousand_steps_are_dropped(rt: HostRuntime) {
         1,
         Clients::One(Client::AskOften),
     );
-    assert!(&rt; journals.len() == 1);
+    assert!(rt; journals.len() == 1);
     // A pump that finds the journal full during the session drops its few steps.
     let start = journals[0].start();
     drop(journals);
-    assert!(&rt; start >= 1_000 && start < 2_000);
+    assert!(rt; start >= 1_000 && start < 2_000);
 }
 
 // One site is served to one client, with these time limits.
@@ -138,20 +138,20 @@ where
     let (one, other) = (bound(rt, HERE, one), bound(rt, HERE, other));
     let settings = settings(rt, 3, HERE, port, Limit::Usual);
     let (ended, log) = served(rt, alloc, &settings, 0, 10);
-    assert!(rt; is_taken(&ended, told));
+    assert!(*rt; is_taken(&ended, told));
     drop(ended);
     drop(log);
     drop(settings);
     drop(one);
     drop(other);
-    assert!(rt; are_free(rt, port, 3));
+    assert!(*rt; are_free(rt, port, 3));
 }
 
 #[test]
 fn a_port_that_is_taken(rt: HostRuntime) {
     let alloc = rt.alloc();
     let port = free_port(&rt, 24_340, 3);
-    assert!(&rt; 0 < port && port < LAST_PORT);
+    assert!(rt; 0 < port && port < LAST_PORT);
     assert_cannot_listen(&rt, alloc, port, port, port + 1, port);
     assert_cannot_listen(&rt, alloc, port, port + 1, port + 2, port + 1);
 }
@@ -180,7 +180,7 @@ where
         End::Taken(port) => is_taken(&ended, port),
     };
     drop(ended);
-    assert!(rt; is_wanted);
+    assert!(*rt; is_wanted);
     log
 }
 
@@ -188,7 +188,7 @@ where
 fn the_log_tells_who_listens(rt: HostRuntime) {
     let alloc = rt.alloc();
     let port = free_port(&rt, 24_380, 2);
-    assert!(&rt; 0 < port && port < LAST_PORT);
+    assert!(rt; 0 < port && port < LAST_PORT);
     let lines = format!(in alloc;
         "listening 127.0.0.2:{}\nlistening 127.0.0.2:{}\n",
         port,
@@ -196,17 +196,17 @@ fn the_log_tells_who_listens(rt: HostRuntime) {
     )
     .expect(&rt, "memory");
     let log = told(&rt, alloc, port, 10, End::Served);
-    assert!(&rt; log.as_slice() == lines.as_bytes());
+    assert!(rt; log.as_slice() == lines.as_bytes());
     drop(log);
     // The second line fails.
     let log = told(&rt, alloc, port, 1, End::WriteFailed);
-    assert!(&rt; lines.as_bytes().starts_with(log.as_slice()) && !log.as_slice().is_empty());
+    assert!(rt; lines.as_bytes().starts_with(log.as_slice()) && !log.as_slice().is_empty());
     drop(log);
     drop(lines);
     // The log fails at once, but the fault of a port in use comes first.
     let taken = bound(&rt, there(), port);
     let log = told(&rt, alloc, port, 0, End::Taken(port));
-    assert!(&rt; log.as_slice().is_empty());
+    assert!(rt; log.as_slice().is_empty());
     drop(log);
     drop(taken);
 }
@@ -215,7 +215,7 @@ fn the_log_tells_who_listens(rt: HostRuntime) {
 fn a_client_sees_what_another_adds_meanwhile(rt: HostRuntime) {
     let alloc = rt.alloc();
     let journals = served_to(&rt, alloc, 24_520, 1, Limit::Usual, 2, Clients::AtOnce);
-    assert!(&rt; journals.len() == 1);
+    assert!(rt; journals.len() == 1);
     assert_shows(&rt, alloc, &journals, REPORT);
     drop(journals);
 }

@@ -31,6 +31,7 @@ fn a_sink_sends_what_its_writer_holds_back(rt: HostRuntime) {
     assert_same(&rt, &sink.write(b"abc"), &Ok(3));
     let writer = sink.into_inner();
     assert_bytes(&rt, writer.get_ref().as_slice(), b"abc");
+    drop(writer);
 }
 
 // A device that first fails a number of times with errors of a kind, at reads and writes or at flushes, and then moves one byte at

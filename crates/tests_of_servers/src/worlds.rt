@@ -1,8 +1,10 @@
 //! Worlds of sites, beyond what scripts can show: the sites, the entries, outcomes that no line gives, and out of memory.
-use crate::shared::{assert_report, list, member_block, name, queue_block, site, whole_status};
+use crate::shared::{
+    add, assert_report, interface, list, member_block, queue_block, sales, site, status,
+};
 use Asked::{Abandoned, Add, Completed, Cut, Remove, Status, Take, Whole};
 use Came::{Done, Entry, NoEntry, NoSite, Reported, Taken};
-use dots::{Interface, Label, Penalty, QueueName, SiteId, Text80};
+use dots::SiteId;
 use replica::Command;
 use sites_world::{Event, Outcome, World, WorldFault};
 use status_report::{Answer, Ask};
@@ -37,28 +39,6 @@ enum Came {
 // An event in short form: its site, what is asked there, and the expected outcome.
 type Told = (u16, Asked, Came);
 
-fn sales(rt: &impl Abort) -> QueueName {
-    name(rt, b"sales")
-}
-
-fn interface(rt: &impl Abort, of: &str) -> Interface {
-    Interface::new(of.as_bytes()).expect(rt, "an interface")
-}
-
-// An add that sets a penalty.
-fn add(rt: &impl Abort, of: &str, number: u32) -> Command {
-    Command::Add {
-        queue: sales(rt),
-        interface: interface(rt, of),
-        penalty: Penalty::new(number).expect(rt, "a penalty"),
-        paused: false,
-        label: Label {
-            name: Text80::empty(),
-            state: Text80::empty(),
-        },
-    }
-}
-
 fn command_of(rt: &impl Abort, asked: Asked) -> Command {
     match asked {
         Asked::Add(of, number) => add(rt, of, number),
@@ -75,7 +55,7 @@ fn command_of(rt: &impl Abort, asked: Asked) -> Command {
 fn event_of(rt: &impl Abort, alloc: Global, at: u16, asked: Asked) -> Event {
     let at = site(rt, at);
     match asked {
-        Asked::Status => Event::Ask(at, Ask::Status(whole_status(alloc))),
+        Asked::Status => Event::Ask(at, status(alloc)),
         Asked::Cut => Event::Cut(at),
         Asked::Whole => Event::Whole(at),
         Asked::Take(entry) => Event::Take(at, entry),
@@ -103,7 +83,7 @@ fn assert_outcome(rt: &impl Abort, outcome: &Outcome, wanted: Came) {
         (Outcome::Answered(Answer::Report(given)), Came::Reported(blocks)) => {
             assert_report(rt, given.as_slice(), blocks);
         }
-        (Outcome::Cut(Ok(Some(entry))), Came::Entry(told)) => assert!(rt; *entry == told),
+        (Outcome::Cut(Ok(Some(entry))), Came::Entry(told)) => assert!(*rt; *entry == told),
         (Outcome::Took(Ok(())), Came::Taken) => {}
         (Outcome::NoSite, Came::NoSite) => {}
         (Outcome::NoEntry, Came::NoEntry) => {}
@@ -129,8 +109,8 @@ const QUEUE: &str = queue_block!("sales", "0", "0");
 // Asserts that a site of a world knows nothing, and has made nothing.
 fn assert_site(rt: &impl Abort, world: &World, at: u16) {
     let replica = world.replica(site(rt, at)).expect(rt, "a replica");
-    assert!(rt; replica.site().number() == at && replica.list().len() == 1);
-    assert!(rt; replica.state().is_empty() && replica.last() == (0, 0, 0));
+    assert!(*rt; replica.site().number() == at && replica.list().len() == 1);
+    assert!(*rt; replica.state().is_empty() && replica.last() == (0, 0, 0));
 }
 
 // Asserts that a world has these sites, and that nothing has happened.
@@ -139,10 +119,10 @@ fn assert_sites(rt: &impl Abort, world: &World, sites: u16) {
         assert_site(rt, world, at);
     }
     if let Some(behind) = SiteId::new(sites) {
-        assert!(rt; world.replica(behind).is_none(), "{sites}");
+        assert!(*rt; world.replica(behind).is_none(), "{sites}");
     }
-    assert!(rt; world.entries() == 0 && world.entry(0).is_none());
-    assert!(rt; world.list().len() == 1);
+    assert!(*rt; world.entries() == 0 && world.entry(0).is_none());
+    assert!(*rt; world.list().len() == 1);
 }
 
 #[test]
@@ -169,12 +149,12 @@ fn assert_outcomes(
     let events = events_of(rt, alloc, told);
     let outcomes = ran(rt, world, &events);
     drop(events);
-    assert!(rt; outcomes.len() == told.len());
+    assert!(*rt; outcomes.len() == told.len());
     for (outcome, (_, _, wanted)) in outcomes.iter().zip(told) {
         assert_outcome(rt, outcome, *wanted);
     }
     drop(outcomes);
-    assert!(rt; world.entries() == entries && world.entry(entries).is_none());
+    assert!(*rt; world.entries() == entries && world.entry(entries).is_none());
 }
 
 #[test]

@@ -4,7 +4,7 @@ use delta_codec::DecodeFault;
 use replica::RestoreFault;
 use std::alloc::Global;
 use std::process::Abort;
-use stored_steps::{BaseFault, base_of_row};
+use stored_steps::{BaseFault, StoredBase, StoredRow, base_of_row};
 
 // The version, site 0, and the list of the queue `sales`.
 const START: &str = "010000010573616c6573";
@@ -22,14 +22,19 @@ const MANY_FRAMES: &str = "000000000000000000000000000000000000010000000001";
 // The frame of the number 1 of site 0, which says nothing.
 const NOTHING: &str = "00000018514402000000000000000001000000000000000000000000";
 
-// Asserts why a row of this kind with these parts is no base of site 0 with the queue `sales`.
-fn assert_fault(rt: &impl Abort, alloc: Global, kind: u32, parts: &[&str], wanted: BaseFault) {
-    let row = row(rt, alloc, kind, parts);
+// Reads the row of a base of site 0 with the queue `sales`.
+fn read(rt: &impl Abort, alloc: Global, row: StoredRow) -> Result<StoredBase, BaseFault> {
     let list = sales_list(rt, alloc);
     let read = base_of_row(alloc, site_0(rt), &list, &row);
     drop(row);
     drop(list);
-    assert!(*rt; read.err() == Some(wanted));
+    read
+}
+
+// Asserts why a row of this kind with these parts is no base of site 0 with the queue `sales`.
+fn assert_fault(rt: &impl Abort, alloc: Global, kind: u32, parts: &[&str], wanted: BaseFault) {
+    let fault = read(rt, alloc, row(rt, alloc, kind, parts)).err();
+    assert!(*rt; fault == Some(wanted));
 }
 
 #[test]
@@ -44,10 +49,7 @@ fn a_base_has_a_row(rt: HostRuntime) {
         row.body(),
         &[START, STORE, NO_COUNT, NOTHING, NOTHING],
     );
-    let list = sales_list(&rt, alloc);
-    let base = base_of_row(alloc, site_0(&rt), &list, &row).expect(&rt, "a base");
-    drop(row);
-    drop(list);
+    let base = read(&rt, alloc, row).expect(&rt, "a base");
     assert!(rt; base.name == NAME && base.starts == 3 && base.replica.last() == (0, 0, 0));
     drop(base);
 }

@@ -61,7 +61,27 @@ fn a_database_without_the_table_is_no_store(rt: HostRuntime) {
     let alloc = rt.alloc();
     let conn = Connection::open_in_memory(alloc).expect(&rt, "memory");
     let list = sales_list(&rt, alloc);
-    let refused = StepDatabase::resume(alloc, conn, site(&rt), &list, 10);
+    let refused = StepDatabase::resume(alloc, conn, site(&rt), &list, 10, false);
     drop(list);
     assert!(rt; refused.err() == Some(OpenFault::NoStore));
+}
+
+#[test]
+fn a_start_counts_all_rows_since_the_base(rt: HostRuntime) {
+    let alloc = rt.alloc();
+    let (mut store, replica) = resumed(&rt, alloc, database(&rt, alloc));
+    let journal = worked(&rt, alloc, replica);
+    save(&rt, &mut store, journal.steps());
+    drop(journal);
+    let grown = store.since_base();
+    let list = sales_list(&rt, alloc);
+    let conn = store.into_connection();
+    let (store, journal) = StepDatabase::resume(alloc, conn, site(&rt), &list, 1, false)
+        .ok()
+        .expect(&rt, "a store");
+    drop(list);
+    drop(journal);
+    assert!(rt; grown.rows == 4 && store.since_base().rows == 5);
+    assert!(rt; store.since_base().bytes == grown.bytes && grown.bytes > 0);
+    drop(store);
 }

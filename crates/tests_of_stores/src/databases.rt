@@ -45,7 +45,7 @@ pub(crate) fn resumed(
     conn: Connection<MemStore>,
 ) -> (Database, Replica) {
     let list = sales_list(rt, alloc);
-    let resumed = StepDatabase::resume(alloc, conn, site(rt), &list, 10);
+    let resumed = StepDatabase::resume(alloc, conn, site(rt), &list, 10, false);
     drop(list);
     let (store, journal) = resumed.ok().expect(rt, "a store");
     let replica = journal.replica().copy().expect(rt, "memory");

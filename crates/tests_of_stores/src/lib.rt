@@ -16,6 +16,8 @@ mod desk_trials;
 #[cfg(test)]
 mod desks;
 #[cfg(test)]
+mod kept_rows;
+#[cfg(test)]
 mod launches;
 #[cfg(test)]
 mod memory_store;

@@ -87,7 +87,9 @@ impl StepStore for MemoryStore {
             return Err(CommitFault::Full);
         }
         let mut group = group;
-        if self.steps.append(&mut group).is_err() {
+        let is_kept = self.steps.append(&mut group).is_ok();
+        drop(group);
+        if !is_kept {
             return Err(CommitFault::Full);
         }
         self.commits_left -= 1;

@@ -7,7 +7,12 @@ use site_journal::{Step, StepDeed};
 use status_report::{Answer, Ask};
 use std::alloc::Global;
 use std::process::Abort;
-use stored_steps::{RowFault, RowKind, row_of_step, step_of_row};
+use stored_steps::{RowFault, RowKind, StoredRow, row_of_step, step_of_row};
+
+// The row of a step, if it has one.
+fn row_of(rt: &impl Abort, alloc: Global, step: &Step) -> Option<StoredRow> {
+    row_of_step(alloc, step).expect(rt, "memory")
+}
 
 // Asserts the row of a deed of pass 2, and that it is read as that deed.
 fn assert_row(
@@ -19,8 +24,7 @@ fn assert_row(
     digits: &str,
 ) {
     let step = Step { pass: 2, deed };
-    let made = row_of_step(alloc, &step).expect(rt, "memory");
-    let row = made.expect(rt, "a row");
+    let row = row_of(rt, alloc, &step).expect(rt, "a row");
     assert!(*rt; row.pass() == 2 && row.kind() == kind.number() && row.words() == words);
     assert_bytes(rt, alloc, row.body(), &[digits]);
     let read = step_of_row(alloc, &row).expect(rt, "a step");
@@ -44,7 +48,7 @@ fn frame(rt: &impl Abort, alloc: Global) -> Bytes {
 // Asserts that a deed has no row.
 fn assert_no_row(rt: &impl Abort, alloc: Global, deed: StepDeed) {
     let step = Step { pass: 2, deed };
-    let made = row_of_step(alloc, &step).expect(rt, "memory");
+    let made = row_of(rt, alloc, &step);
     drop(step);
     assert!(*rt; made.is_none());
     drop(made);

@@ -22,6 +22,7 @@ pub(crate) fn bytes(rt: &impl Abort, alloc: Global, parts: &[&str]) -> Vec<u8> {
     for part in parts {
         let bytes = hex::decode(alloc, part).expect(rt, "digits");
         all.extend_from_slice(&bytes).expect(rt, "memory");
+        drop(bytes);
     }
     all
 }
@@ -30,6 +31,7 @@ pub(crate) fn bytes(rt: &impl Abort, alloc: Global, parts: &[&str]) -> Vec<u8> {
 pub(crate) fn assert_bytes(rt: &impl Abort, alloc: Global, some: &[u8], parts: &[&str]) {
     let want = bytes(rt, alloc, parts);
     assert!(*rt; some == want.as_slice());
+    drop(want);
 }
 
 // A row of pass 2, of this kind, with a body of some parts in hexadecimal.

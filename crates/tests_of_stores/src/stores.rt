@@ -3,8 +3,8 @@ ghost use Rattle.std.specs.Prelude.{◌<◌};
 
 use crate::shared::{ADD, NAME, SECOND_ADD, THIRD_ADD, add_row, base_row, sales_list, site_0};
 use site_store::{
-    OpenFault, ResumedSite, append, append_all, create, is_blank_schema, is_step_schema, read_all,
-    replace_base, resume,
+    Listed, OpenFault, ResumedSite, append, append_all, create, is_blank_schema, is_step_schema,
+    read_all, replace_base, resume,
 };
 use sqlite::{Connection, MemStore};
 use std::alloc::Global;
@@ -69,11 +69,14 @@ fn run(rt: &impl Abort, store: &mut Store, text: &str) {
     assert!(*rt; store.execute(text, &[]).is_ok());
 }
 
+// The rows of a store, if none is missing.
+fn listed(rt: &impl Abort, alloc: Global, store: &mut Store) -> Option<Listed> {
+    read_all(alloc, store).expect(rt, "a database")
+}
+
 // Asserts the position of the first row, and the kinds of all rows.
 fn assert_rows(rt: &impl Abort, alloc: Global, store: &mut Store, first: u64, kinds: &[u32]) {
-    let listed = read_all(alloc, store)
-        .expect(rt, "a database")
-        .expect(rt, "rows");
+    let listed = listed(rt, alloc, store).expect(rt, "rows");
     assert!(*rt; listed.first == first && listed.steps.len() == kinds.len());
     for (row, kind) in listed.steps.iter().zip(kinds) {
         assert!(*rt; row.kind() == *kind);
@@ -127,7 +130,7 @@ fn a_row_that_is_missing_is_found(rt: HostRuntime) {
     let alloc = rt.alloc();
     let mut store = new_store(&rt, alloc);
     put(&rt, alloc, &mut store, 7, ADD);
-    let listed = read_all(alloc, &mut store).expect(&rt, "a database");
+    let listed = listed(&rt, alloc, &mut store);
     assert!(rt; listed.is_none());
     drop(listed);
     assert!(rt; fault_of(&rt, alloc, &mut store) == Some(OpenFault::Gap));

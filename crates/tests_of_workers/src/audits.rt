@@ -1,7 +1,9 @@
 //! Audits of journals: the list of events that they are, or why there is none.
 use crate::asks::{SALES, add, list, status};
 use crate::frames::{ADDED, OLD_ADDED};
-use crate::journal_steps::{called, cut, frame, journal, journal_of_queue, knows, shown, take};
+use crate::journal_steps::{
+    called, cut, frame, journal, journal_of_queue, knows, shown, take, whole,
+};
 use site_audit::{AuditFault, Event, audit};
 use site_journal::Journaled;
 use sites_world::World;
@@ -23,6 +25,16 @@ fn ask_status(rt: &impl Abort, alloc: Global, journal: &mut Journaled) {
     drop(asked);
 }
 
+// The events of an audit of journals.
+pub(crate) fn events_of(rt: &impl Abort, alloc: Global, journals: &[Journaled]) -> Vec<Event> {
+    audit(alloc, journals).ok().expect(rt, "events")
+}
+
+// The fault that an audit of journals finds, if it finds one.
+pub(crate) fn audit_fault(alloc: Global, journals: &[Journaled]) -> Option<AuditFault> {
+    audit(alloc, journals).err()
+}
+
 // Asserts that an audit of two journals finds this fault.
 fn assert_no_run(
     rt: &impl Abort,
@@ -32,9 +44,9 @@ fn assert_no_run(
     fault: AuditFault,
 ) {
     let journals = [first, second];
-    let told = audit(alloc, &journals).err();
-    assert!(rt; told == Some(fault));
+    let found = audit_fault(alloc, &journals);
     drop(journals);
+    assert!(*rt; found == Some(fault));
 }
 
 // Asserts that journals of these two sites, of which the second is of the queue of this name, are not those of all sites in order.
@@ -47,14 +59,14 @@ fn assert_wrong_sites(rt: &impl Abort, alloc: Global, first: u16, second: u16, q
 #[test]
 fn journals_are_fresh_of_one_list_and_in_order(rt: HostRuntime) {
     let alloc = rt.alloc();
-    let events = audit(alloc, &[]).ok().expect(&rt, "events");
+    let events = events_of(&rt, alloc, &[]);
     assert!(rt; events.is_empty());
     drop(events);
     assert_wrong_sites(&rt, alloc, 0, 1, b"other");
     assert_wrong_sites(&rt, alloc, 1, 0, SALES);
     assert_wrong_sites(&rt, alloc, 0, 2, SALES);
     let mut second = journal(&rt, alloc, 1);
-    assert!(rt; second.whole(0).is_ok());
+    drop(whole(&rt, &mut second, 0));
     assert!(rt; second.checkpoint().is_ok());
     let first = journal(&rt, alloc, 0);
     assert_no_run(&rt, alloc, first, second, AuditFault::NotFresh(1));
@@ -63,8 +75,8 @@ fn journals_are_fresh_of_one_list_and_in_order(rt: HostRuntime) {
 // The first frame of site 0, of which a byte is changed that was this before.
 fn changed(rt: &impl Abort, alloc: Global, place: usize, was: u8, byte: u8) -> Vec<u8> {
     let mut bytes = Vec::from_slice(alloc, ADDED).expect(rt, "memory");
-    assert!(rt; place < bytes.len());
-    assert!(rt; bytes[place] == was);
+    assert!(*rt; place < bytes.len());
+    assert!(*rt; bytes[place] == was);
     bytes[place] = byte;
     bytes
 }
@@ -73,7 +85,7 @@ fn changed(rt: &impl Abort, alloc: Global, place: usize, was: u8, byte: u8) -> V
 fn assert_foreign(rt: &impl Abort, alloc: Global, second: Journaled, step: u64) {
     let mut first = journal(rt, alloc, 0);
     let frame = added(rt, &mut first, b"SIP/1");
-    assert!(rt; frame.as_slice() == ADDED);
+    assert!(*rt; frame.as_slice() == ADDED);
     drop(frame);
     assert_no_run(rt, alloc, first, second, AuditFault::NoRun(1, step));
 }
@@ -82,7 +94,7 @@ fn assert_foreign(rt: &impl Abort, alloc: Global, second: Journaled, step: u64) 
 fn assert_in_no_run(rt: &impl Abort, alloc: Global, bytes: &[u8]) {
     let mut second = journal(rt, alloc, 1);
     take(rt, alloc, &mut second, 0, bytes);
-    assert!(rt; second.len() == 1 && knows(second.replica()));
+    assert!(*rt; second.len() == 1 && knows(second.replica()));
     assert_foreign(rt, alloc, second, 0);
 }
 
@@ -93,7 +105,9 @@ fn assert_differs(rt: &impl Abort, alloc: Global, second: &Journaled) {
     let own = shown(rt, alloc, first.replica());
     drop(first);
     let told = shown(rt, alloc, second.replica());
-    assert!(rt; own.as_slice() != told.as_slice());
+    assert!(*rt; own.as_slice() != told.as_slice());
+    drop(own);
+    drop(told);
 }
 
 #[test]
@@ -121,14 +135,21 @@ fn assert_same(rt: &impl Abort, alloc: Global, world: &World, journal: &Journale
     let replica = world.replica(journal.base().site()).expect(rt, "a site");
     let told = shown(rt, alloc, replica);
     let own = shown(rt, alloc, journal.replica());
-    assert!(rt; told.as_slice() == own.as_slice());
+    assert!(*rt; told.as_slice() == own.as_slice());
+    drop(told);
+    drop(own);
 }
 
 // Asserts that a list of events leads each site of a world to the report of its journal's replica.
-fn assert_explains(rt: &impl Abort, alloc: Global, journals: &[Journaled], events: &[Event]) {
+pub(crate) fn assert_explains(
+    rt: &impl Abort,
+    alloc: Global,
+    journals: &[Journaled],
+    events: &[Event],
+) {
     let list = list(rt, alloc);
     let mut world = World::new(alloc, 3, &list).ok().expect(rt, "a world");
-    assert!(rt; world.run(events).is_ok());
+    drop(world.run(events).expect(rt, "memory"));
     for journal in journals {
         assert_same(rt, alloc, &world, journal);
     }
@@ -161,7 +182,7 @@ fn three(rt: &impl Abort, alloc: Global) -> [Journaled; 3] {
 fn frames_that_are_lost_repeated_and_reordered_are_one_run(rt: HostRuntime) {
     let alloc = rt.alloc();
     let journals = three(&rt, alloc);
-    let events = audit(alloc, &journals).ok().expect(&rt, "events");
+    let events = events_of(&rt, alloc, &journals);
     assert!(rt; events.len() == 14);
     assert_explains(&rt, alloc, &journals, events.as_slice());
     drop(events);

@@ -4,7 +4,7 @@ ghost use Rattle.dots.specs.declared.limits.TheConstants.{MOST_COUNT};
 
 use dots::{Bytes, MOST_COUNT, Memory};
 use site_journal::{Bell, DeskFault, Port, Receipt, StepDeed};
-use site_pumps::{NoReceipts, Outlet, broadcast, broadcast_whole};
+use site_pumps::{Deed, LinkPlan, NoReceipts, Outlet, broadcast, broadcast_whole, pump_out};
 use std::alloc::Global;
 use std::process::Abort;
 use std::sync::Wait;
@@ -171,9 +171,9 @@ fn assert_given<R: Abort + Wait>(
         has_ended: false,
     };
     let mut sink = NoReceipts;
-    assert!(rt; broadcast(rt, &mut port, &mut outlets, &mut bell, &mut sink) == end);
-    assert!(rt; outlets[0].given.as_slice() == first);
-    assert!(rt; outlets[1].given.as_slice() == second);
+    assert!(*rt; broadcast(rt, &mut port, &mut outlets, &mut bell, &mut sink) == end);
+    assert!(*rt; outlets[0].given.as_slice() == first);
+    assert!(*rt; outlets[1].given.as_slice() == second);
     drop(outlets);
     drop(port);
 }
@@ -219,11 +219,41 @@ fn a_whole_is_given_to_each_outlet(rt: HostRuntime) {
         ListOutlet::new(&rt, alloc, 1, false),
     ];
     let mut sink = NoReceipts;
-    assert!(&rt; broadcast_whole(&rt, &mut port, &mut outlets, &mut sink).is_ok());
+    assert!(rt; broadcast_whole(&rt, &mut port, &mut outlets, &mut sink).is_ok());
     let again = broadcast_whole(&rt, &mut port, &mut outlets, &mut sink);
-    assert!(&rt; again == Err(DeskFault::Memory));
-    assert!(&rt; outlets[0].given.as_slice() == [7, 8].as_slice());
-    assert!(&rt; outlets[1].given.as_slice() == [7].as_slice());
+    assert!(rt; again == Err(DeskFault::Memory));
+    assert!(rt; outlets[0].given.as_slice() == [7, 8].as_slice());
+    assert!(rt; outlets[1].given.as_slice() == [7].as_slice());
+    drop(outlets);
+    drop(port);
+}
+
+// Two rings give three cuts and a whole. The plan holds the first frame, sends the second one twice, and loses the third one.
+#[test]
+fn a_plan_is_followed_at_each_outlet(rt: HostRuntime) {
+    let alloc = rt.alloc();
+    let mut port = BytePort {
+        alloc,
+        steps: 0,
+        fault: None,
+    };
+    let mut outlets = [
+        ListOutlet::new(&rt, alloc, 10, false),
+        ListOutlet::new(&rt, alloc, 10, true),
+    ];
+    let mut bell = CountedBell {
+        left: 2,
+        rings: 0,
+        has_ended: false,
+    };
+    let deeds = Vec::from_slice(alloc, &[Deed::Hold, Deed::Twice, Deed::Lose]).expect(&rt, "memory");
+    let plan = LinkPlan::new(deeds);
+    let pumped = pump_out(&rt, alloc, &mut port, &mut outlets, &mut bell, &plan);
+    assert!(&rt; pumped.fault.is_none() && pumped.receipts.len() == 4);
+    assert!(&rt; outlets[0].given.as_slice() == [1, 1, 0, 3].as_slice());
+    assert!(&rt; outlets[1].given.is_empty());
+    drop(pumped);
+    drop(plan);
     drop(outlets);
     drop(port);
 }

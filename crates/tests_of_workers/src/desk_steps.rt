@@ -1,7 +1,8 @@
 //! What desks with two passes are asked, and how they are closed.
 use crate::asks::status;
+use crate::journal_steps::settle_fault;
 use site_desk::{CloseFault, Pass, SiteDesk, SiteLedger, close};
-use site_journal::{Journaled, Receipt, StepDeed, settle};
+use site_journal::{DeskFault, Journaled, Receipt, StepDeed};
 use status_report::{Answer, Ask};
 use std::alloc::Global;
 use std::process::Abort;
@@ -32,7 +33,7 @@ pub(crate) fn assert_closed<L: SiteLedger>(
     start: u64,
 ) {
     let journal = closed(rt, alloc, desk, first, second);
-    assert!(rt; journal.count() == count && journal.start() == start);
+    assert!(*rt; journal.count() == count && journal.start() == start);
     drop(journal);
 }
 
@@ -47,9 +48,10 @@ pub(crate) fn assert_settled<L: SiteLedger>(
     count: u64,
 ) {
     let journal = closed(rt, alloc, desk, first, second);
-    assert!(rt; journal.count() == count);
-    assert!(rt; settle(&journal, &receipts).is_ok());
+    assert!(*rt; journal.count() == count);
+    let fault = settle_fault(&journal, &receipts);
     drop(receipts);
+    assert!(*rt; fault.is_none());
     drop(journal);
 }
 
@@ -63,10 +65,22 @@ pub(crate) fn kept_open<L: SiteLedger>(
     let mut passes = Vec::new(alloc);
     passes.push(pass).expect(rt, "memory");
     let (fault, desk, mut passes) = close(desk, passes).err().expect(rt, "a fault");
-    assert!(rt; fault == CloseFault::WrongPasses && passes.len() == 1);
+    assert!(*rt; fault == CloseFault::WrongPasses && passes.len() == 1);
     let pass = passes.pop().expect(rt, "a pass");
     drop(passes);
     (desk, pass)
+}
+
+// The receipt of what a pass asks, or why there is none.
+pub(crate) fn answered<L: SiteLedger, R: Wait>(
+    rt: &R,
+    desk: &SiteDesk<L>,
+    pass: &mut Pass<L>,
+    ask: Ask,
+) -> Result<Receipt, DeskFault> {
+    let answered = desk.call(rt, pass, &ask);
+    drop(ask);
+    answered
 }
 
 // The receipt of what a pass asks.
@@ -76,9 +90,7 @@ pub(crate) fn called<L: SiteLedger, R: Abort + Wait>(
     pass: &mut Pass<L>,
     ask: Ask,
 ) -> Receipt {
-    let receipt = desk.call(rt, pass, &ask).ok().expect(rt, "a receipt");
-    drop(ask);
-    receipt
+    answered(rt, desk, pass, ask).ok().expect(rt, "a receipt")
 }
 
 // The receipt of a status that a pass asks.

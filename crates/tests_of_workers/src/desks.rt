@@ -1,6 +1,8 @@
 //! What is asserted of desks with two passes: the passes, their receipts, and the calls of two threads.
 use crate::asks::{add, status};
-use crate::desk_steps::{asked, assert_closed, assert_settled, called, kept_open, reports};
+use crate::desk_steps::{
+    answered, asked, assert_closed, assert_settled, called, kept_open, reports,
+};
 use crate::gates::{MANY_TURNS, MeetingGate, comes};
 use site_desk::{Pass, SiteDesk, SiteLedger};
 use site_journal::{DeskFault, Receipt};
@@ -19,7 +21,7 @@ pub(crate) fn assert_closes<L: SiteLedger>(
     first: Pass<L>,
     second: Pass<L>,
 ) {
-    assert!(rt; first.ordinal() == 0 && second.ordinal() == 1 && second.seen() == 0);
+    assert!(*rt; first.ordinal() == 0 && second.ordinal() == 1 && second.seen() == 0);
     let (desk, first) = kept_open(rt, alloc, desk, first);
     assert_closed(rt, alloc, desk, first, second, 0, 0);
 }
@@ -60,10 +62,8 @@ fn assert_full<L: SiteLedger, R: Abort + Wait>(
     desk: &SiteDesk<L>,
     pass: &mut Pass<L>,
 ) {
-    let ask = status(alloc);
-    let fault = desk.call(rt, pass, &ask).err();
-    drop(ask);
-    assert!(rt; fault == Some(DeskFault::JournalFull));
+    let fault = answered(rt, desk, pass, status(alloc)).err();
+    assert!(*rt; fault == Some(DeskFault::JournalFull));
 }
 
 // Two passes ask in turn until no step may be added to a journal of 20,000.
@@ -77,7 +77,7 @@ pub(crate) fn assert_fills<L: SiteLedger, R: Abort + Wait>(
     let mut first = first;
     let mut second = second;
     let receipts = asked_in_turn(rt, alloc, &desk, &mut first, &mut second);
-    assert!(rt; first.seen() == 19_999 && second.seen() == 20_000);
+    assert!(*rt; first.seen() == 19_999 && second.seen() == 20_000);
     assert_full(rt, alloc, &desk, &mut first);
     assert_settled(rt, alloc, desk, first, second, receipts, 20_000);
 }
@@ -94,7 +94,7 @@ fn added<L: SiteLedger, R: Abort + Wait>(
     let done = called(rt, desk, pass, add(rt, interface, 0));
     receipts.push(done).expect(rt, "memory");
     let report = asked(rt, alloc, desk, pass);
-    assert!(rt; reports(&report, interface));
+    assert!(*rt; reports(&report, interface));
     receipts.push(report).expect(rt, "memory");
     receipts
 }
@@ -115,7 +115,7 @@ pub(crate) fn assert_adds<L: SiteLedger + Send + Sync, R: Abort + Threads + Wait
         move || added(rt, alloc, lent, one, b"SIP/1"),
         move || added(rt, alloc, lent, other, b"SIP/2"),
     );
-    assert!(rt; one.len() == 2 && other.len() == 2);
+    assert!(*rt; one.len() == 2 && other.len() == 2);
     assert_settled(rt, alloc, desk, first, second, [one, other], 4);
 }
 
@@ -136,7 +136,7 @@ fn looked<L: SiteLedger, R: Abort + Wait>(
     };
     let ask = status(alloc);
     let receipt = desk.call_gated(rt, pass, &ask, &mut gate, 0);
-    assert!(rt; receipt.is_ok() && called.load(Ordering::SeqCst) == 1);
+    assert!(*rt; receipt.is_ok() && called.load(Ordering::SeqCst) == 1);
     drop(receipt);
     drop(ask);
     gate.saw
@@ -151,7 +151,7 @@ fn call_behind<L: SiteLedger, R: Abort + Wait>(
     called: &AtomicU64,
     done: &AtomicU64,
 ) {
-    assert!(rt; comes(called, 1, MANY_TURNS));
+    assert!(*rt; comes(called, 1, MANY_TURNS));
     drop(asked(rt, alloc, desk, pass));
     done.store(1, Ordering::SeqCst);
 }
@@ -174,6 +174,6 @@ pub(crate) fn assert_excludes<L: SiteLedger + Send + Sync, R: Abort + Threads + 
         move || looked(rt, alloc, lent, one, called, done),
         move || call_behind(rt, alloc, lent, other, called, done),
     );
-    assert!(rt; !saw && done.load(Ordering::SeqCst) == 1);
+    assert!(*rt; !saw && done.load(Ordering::SeqCst) == 1);
     assert_closed(rt, alloc, desk, first, second, 2, 0);
 }

@@ -1,11 +1,11 @@
 //! Sites of one queue that know nothing, their journals, and the steps of a pass in these.
-ghost use Rattle.std.specs.Prelude.{◌≡◌};
+ghost use Rattle.std.specs.Prelude.{◌≡◌, ◌<◌, ◌^◌, length};
 ghost use Rattle.site_journal.specs.Journals.{IsOfSite};
 
 use crate::asks::{SALES, list_of, request};
-use dots::SiteId;
+use dots::{Memory, SiteId};
 use replica::Replica;
-use site_journal::{Journaled, Step, StepDeed};
+use site_journal::{Journaled, Receipt, SettleFault, Step, StepDeed, settle};
 use status_report::{Ask, report};
 use std::alloc::Global;
 use std::process::Abort;
@@ -57,6 +57,11 @@ pub(crate) fn cut(rt: &impl Abort, journal: &mut Journaled, pass: u32) -> Step {
     journal.cut(pass).ok().expect(rt, "a step")
 }
 
+// The step of a whole.
+pub(crate) fn whole(rt: &impl Abort, journal: &mut Journaled, pass: u32) -> Step {
+    journal.whole(pass).ok().expect(rt, "a step")
+}
+
 // The frame of a cut that has something to cut.
 pub(crate) fn frame(rt: &impl Abort, journal: &mut Journaled, pass: u32) -> Vec<u8> {
     let step = cut(rt, journal, pass);
@@ -76,7 +81,7 @@ pub(crate) fn take(
 ) {
     let bytes = Vec::from_slice(alloc, frame).expect(rt, "memory");
     let step = journal.take(pass, bytes).ok().expect(rt, "a step");
-    assert!(rt; step.pass == pass && matches!(step.deed, StepDeed::Took(_)));
+    assert!(*rt; step.pass == pass && matches!(step.deed, StepDeed::Took(_)));
     drop(step);
 }
 
@@ -85,8 +90,22 @@ pub(crate) fn knows(replica: &Replica) -> bool {
     replica.rows(0).next().is_some()
 }
 
+// The report of what a site knows, if there is memory for it.
+pub(crate) fn reported(alloc: Global, replica: &Replica) -> Result<Vec<u8>, Memory> {
+    let request = request(alloc);
+    let reported = report(alloc, replica, &request);
+    drop(request);
+    reported
+}
+
 // The report of what a site knows.
 pub(crate) fn shown(rt: &impl Abort, alloc: Global, replica: &Replica) -> Vec<u8> {
-    let request = request(alloc);
-    report(alloc, replica, &request).expect(rt, "memory")
+    reported(alloc, replica).expect(rt, "memory")
+}
+
+// Why these receipts don't settle a journal, if they don't.
+pub(crate) fn settle_fault(journal: &Journaled, lists: &[Vec<Receipt>]) -> Option<SettleFault>
+    requires { length lists.now < 2 ^ 32 }
+{
+    settle(journal, lists).err()
 }

@@ -2,24 +2,24 @@
 //! `cases/journals`.
 use crate::asks::{add, status};
 use crate::frames::ADDED;
-use crate::journal_steps::{called, cut, frame, journal, knows, shown, take};
+use crate::journal_steps::{called, cut, frame, journal, knows, settle_fault, shown, take};
 use replica::Refusal;
-use site_journal::{Journaled, Receipt, SettleFault, Step, StepDeed, settle};
+use site_journal::{Journaled, Receipt, SettleFault, Step, StepDeed};
 use status_report::{Answer, Ask};
 use std::alloc::Global;
 use std::process::Abort;
 
 // Asserts how many steps a journal has had in all, and how many of them were before its base.
 fn assert_length(rt: &impl Abort, journal: &Journaled, len: u64, start: u64) {
-    assert!(rt; journal.len() == len && journal.count() == len && journal.start() == start);
-    assert!(rt; journal.steps().len() as u64 == len.saturating_sub(start));
+    assert!(*rt; journal.len() == len && journal.count() == len && journal.start() == start);
+    assert!(*rt; journal.steps().len() as u64 == len.saturating_sub(start));
 }
 
 // The answer to an ask, of which a step is.
 fn answer_of<'a>(rt: &impl Abort, step: &'a Step, asked: &Ask) -> &'a Answer {
     match &step.deed {
         StepDeed::Asked(told, answer) => {
-            assert!(rt; told.same(asked));
+            assert!(*rt; told.same(asked));
             answer
         }
         _ => rt.panic("another deed"),
@@ -29,15 +29,15 @@ fn answer_of<'a>(rt: &impl Abort, step: &'a Step, asked: &Ask) -> &'a Answer {
 // Asserts that a step is this ask, which was refused since there is such a member already.
 fn assert_is_there(rt: &impl Abort, step: &Step, asked: &Ask) {
     let answer = answer_of(rt, step, asked);
-    assert!(rt; matches!(answer, Answer::Refused(Refusal::AlreadyThere)));
+    assert!(*rt; matches!(answer, Answer::Refused(Refusal::AlreadyThere)));
 }
 
 // Asks by pass 7 for a status, which is reported.
 fn ask_status(rt: &impl Abort, alloc: Global, journal: &mut Journaled) {
     let asked = status(alloc);
     let step = called(rt, journal, 7, &asked);
-    assert!(rt; step.pass == 7);
-    assert!(rt; matches!(answer_of(rt, &step, &asked), Answer::Report(_)));
+    assert!(*rt; step.pass == 7);
+    assert!(*rt; matches!(answer_of(rt, &step, &asked), Answer::Report(_)));
     drop(step);
     drop(asked);
 }
@@ -59,7 +59,9 @@ fn refused(rt: &impl Abort, alloc: Global, journal: &mut Journaled, asked: &Ask)
     assert_length(rt, journal, 2, 0);
     assert_is_there(rt, journal.steps().get(1).expect(rt, "a step"), asked);
     let told = shown(rt, alloc, journal.replica());
-    assert!(rt; told.as_slice() == before.as_slice());
+    assert!(*rt; told.as_slice() == before.as_slice());
+    drop(told);
+    drop(before);
     receipt_of(step, 1)
 }
 
@@ -75,16 +77,17 @@ fn assert_both_settle(
     receipts.push(one).expect(rt, "memory");
     receipts.push(other).expect(rt, "memory");
     let lists = [receipts];
-    assert!(rt; settle(journal, &lists).is_ok());
+    let fault = settle_fault(journal, &lists);
     drop(lists);
+    assert!(*rt; fault.is_none());
 }
 
 // Adds SIP/1 at a site that knows nothing, and then again, which is refused.
 fn add_twice(rt: &impl Abort, alloc: Global, journal: &mut Journaled) {
     let asked = add(rt, b"SIP/1", 0);
     let done = called(rt, journal, 0, &asked);
-    assert!(rt; done.pass == 0);
-    assert!(rt; matches!(answer_of(rt, &done, &asked), Answer::Done));
+    assert!(*rt; done.pass == 0);
+    assert!(*rt; matches!(answer_of(rt, &done, &asked), Answer::Done));
     let refused = refused(rt, alloc, journal, &asked);
     drop(asked);
     assert_both_settle(rt, alloc, journal, receipt_of(done, 0), refused);
@@ -92,12 +95,12 @@ fn add_twice(rt: &impl Abort, alloc: Global, journal: &mut Journaled) {
 
 // Asserts what a journal of two asks keeps: the frame of a cut, a report, and nothing behind a checkpoint. The frame.
 fn kept(rt: &impl Abort, alloc: Global, journal: &mut Journaled) -> Vec<u8> {
-    assert!(rt; journal.payload_bytes() == 0);
+    assert!(*rt; journal.payload_bytes() == 0);
     let frame = frame(rt, journal, 7);
-    assert!(rt; journal.payload_bytes() == ADDED.len() as u64);
+    assert!(*rt; journal.payload_bytes() == ADDED.len() as u64);
     ask_status(rt, alloc, journal);
-    assert!(rt; journal.payload_bytes() > ADDED.len() as u64);
-    assert!(rt; journal.checkpoint().is_ok() && journal.payload_bytes() == 0);
+    assert!(*rt; journal.payload_bytes() > ADDED.len() as u64);
+    assert!(*rt; journal.checkpoint().is_ok() && journal.payload_bytes() == 0);
     frame
 }
 
@@ -120,7 +123,7 @@ fn a_refused_command_is_a_step_and_others_take_what_is_cut(rt: HostRuntime) {
 // Cuts by a pass where there is nothing to cut.
 fn cut_nothing(rt: &impl Abort, journal: &mut Journaled, pass: u32) {
     let step = cut(rt, journal, pass);
-    assert!(rt; step.pass == pass && matches!(step.deed, StepDeed::Cut(None)));
+    assert!(*rt; step.pass == pass && matches!(step.deed, StepDeed::Cut(None)));
     drop(step);
 }
 
@@ -151,8 +154,9 @@ fn assert_settles(
         receipts(rt, alloc, 0, first),
         receipts(rt, alloc, 1, second),
     ];
-    assert!(rt; settle(journal, &lists).err() == fault);
+    let found = settle_fault(journal, &lists);
     drop(lists);
+    assert!(*rt; found == fault);
 }
 
 // Asserts which receipts settle a journal, in which pass 1 has cut, pass 0, and pass 1 again.

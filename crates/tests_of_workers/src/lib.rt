@@ -7,6 +7,8 @@ mod asks;
 #[cfg(test)]
 mod audits;
 #[cfg(test)]
+mod brief_senders;
+#[cfg(test)]
 mod broadcasts;
 #[cfg(test)]
 mod desk_steps;

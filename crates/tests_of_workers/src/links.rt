@@ -24,15 +24,16 @@ pub(crate) fn send<R: Abort + Wait>(rt: &R, alloc: Global, sender: &mut LinkSend
     ensures { sender.new.link ≡ sender.old.link }
 {
     let bytes = Vec::from_slice(alloc, item).expect(rt, "memory");
-    assert!(rt; sender.send(rt, bytes).is_ok());
+    assert!(*rt; sender.send(rt, bytes).is_ok());
 }
 
 // Receives the next item, which must be this.
-fn receive<R: Abort + Wait>(rt: &R, receiver: &mut LinkReceiver, item: &[u8])
+pub(crate) fn receive<R: Abort + Wait>(rt: &R, receiver: &mut LinkReceiver, item: &[u8])
     ensures { receiver.new.link ≡ receiver.old.link }
 {
     let bytes = receiver.recv(rt).expect(rt, "an item");
-    assert!(rt; bytes.as_slice() == item);
+    assert!(*rt; bytes.as_slice() == item);
+    drop(bytes);
 }
 
 #[test]
@@ -57,6 +58,42 @@ fn bytes_come_back_once_the_receiver_is_gone(rt: HostRuntime) {
     drop(sender);
 }
 
+// Offers an item of one byte. Returns whether the link took it; otherwise the same byte comes back.
+fn takes_offer<R: Abort + Wait>(rt: &R, alloc: Global, sender: &mut LinkSender, byte: u8) -> bool
+    ensures { sender.new.link ≡ sender.old.link }
+{
+    let item = Vec::from_slice(alloc, &[byte]).expect(rt, "memory");
+    match sender.offer(rt, item) {
+        Ok(()) => true,
+        Err(back) => {
+            assert!(*rt; back.as_slice() == [byte].as_slice());
+            false
+        }
+    }
+}
+
+#[test]
+fn a_full_link_refuses_an_offer_and_takes_the_next_once_it_has_room(rt: HostRuntime) {
+    let (mut sender, mut receiver) = link(&rt, rt.alloc(), 2);
+    assert!(rt; takes_offer(&rt, rt.alloc(), &mut sender, 1));
+    assert!(rt; takes_offer(&rt, rt.alloc(), &mut sender, 2));
+    assert!(rt; !takes_offer(&rt, rt.alloc(), &mut sender, 3) && !sender.down());
+    receive(&rt, &mut receiver, &[1]);
+    assert!(rt; takes_offer(&rt, rt.alloc(), &mut sender, 4));
+    receive(&rt, &mut receiver, &[2]);
+    receive(&rt, &mut receiver, &[4]);
+    assert!(rt; compare(sender, receiver) == (3, 3));
+}
+
+#[test]
+fn an_offer_comes_back_once_the_receiver_is_gone(rt: HostRuntime) {
+    let (mut sender, receiver) = link(&rt, rt.alloc(), 2);
+    drop(receiver);
+    assert!(rt; !takes_offer(&rt, rt.alloc(), &mut sender, 1) && sender.down());
+    assert!(rt; !takes_offer(&rt, rt.alloc(), &mut sender, 2) && sender.down());
+    drop(sender);
+}
+
 // Sends all numbers below 1,024, and lets the sender go.
 fn send_numbers<R: Abort + Wait>(rt: &R, alloc: Global, sender: LinkSender) {
     let mut sender = sender;
@@ -72,7 +109,7 @@ fn receive_numbers<R: Abort + Wait>(rt: &R, receiver: LinkReceiver) {
     for number in 0..1_024u16 {
         receive(rt, &mut receiver, &number.to_be_bytes());
     }
-    assert!(rt; receiver.recv(rt).is_none() && receiver.ended());
+    assert!(*rt; receiver.recv(rt).is_none() && receiver.ended());
     drop(receiver);
 }
 
@@ -96,14 +133,14 @@ fn send_three<R: Abort + Wait>(rt: &R, alloc: Global, sender: LinkSender, begun:
 // Receives three items, some turns after the second of them is sent.
 fn receive_late<R: Abort + Wait>(rt: &R, receiver: LinkReceiver, begun: &AtomicU64) {
     let mut receiver = receiver;
-    assert!(rt; comes(begun, 1, MANY_TURNS));
+    assert!(*rt; comes(begun, 1, MANY_TURNS));
     for _ in 0..65_536u32 {
         thread::yield_now();
     }
     for item in 0..3u8 {
         receive(rt, &mut receiver, &[item]);
     }
-    assert!(rt; receiver.recv(rt).is_none());
+    assert!(*rt; receiver.recv(rt).is_none());
     drop(receiver);
 }
 

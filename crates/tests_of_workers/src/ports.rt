@@ -21,12 +21,13 @@ fn assert_fills_two<L: SiteLedger, R: Abort + Wait>(
 ) {
     let mut port = DeskPort::new(desk, pass);
     let cut = port.cut(rt).ok().expect(rt, "a receipt");
-    assert!(rt; cut.pass == 0 && cut.position == 0 && matches!(cut.deed, StepDeed::Cut(None)));
+    assert!(*rt; cut.pass == 0 && cut.position == 0 && matches!(cut.deed, StepDeed::Cut(None)));
     drop(cut);
     let whole = port.whole(rt).ok().expect(rt, "a receipt");
-    assert!(rt; whole.position == 1 && matches!(whole.deed, StepDeed::Whole(_)));
+    assert!(*rt; whole.position == 1 && matches!(whole.deed, StepDeed::Whole(_)));
     drop(whole);
-    assert!(rt; port.cut(rt).err() == Some(DeskFault::JournalFull));
+    assert!(*rt; port.cut(rt).err() == Some(DeskFault::JournalFull));
+    drop(port);
 }
 
 // A port answers as its desk, which goes on behind a checkpoint, upon a journal of two steps.
@@ -39,9 +40,10 @@ pub(crate) fn assert_answers<L: SiteLedger, R: Abort + Wait>(
 ) {
     let mut first = first;
     assert_fills_two(rt, &desk, &mut first);
-    assert!(rt; desk.checkpoint(rt).is_ok());
+    assert!(*rt; desk.checkpoint_if_full(rt) == Ok(true));
+    assert!(*rt; desk.checkpoint_if_full(rt) == Ok(false));
     let asked = asked(rt, alloc, &desk, &mut first);
-    assert!(rt; asked.position == 2);
+    assert!(*rt; asked.position == 2);
     drop(asked);
     assert_closed(rt, alloc, desk, first, second, 3, 2);
 }
@@ -92,17 +94,17 @@ fn pumped<L: SiteLedger, R: Abort + Wait>(
 
 // Asserts that a pump has taken three items, and went on to the end of its link.
 fn assert_all_taken(rt: &impl Abort, taken: Taken) {
-    assert!(rt; taken.end.fault.is_none() && taken.end.refused.is_none());
-    assert!(rt; taken.receipts.len() == 3 && taken.receipts[0].position == 0);
+    assert!(*rt; taken.end.fault.is_none() && taken.end.refused.is_none());
+    assert!(*rt; taken.receipts.len() == 3 && taken.receipts[0].position == 0);
     drop(taken);
 }
 
 // Asserts that a pump has taken one item, at position 3, and was stopped by two runs that touch.
 fn assert_stopped(rt: &impl Abort, taken: Taken) {
-    assert!(rt; taken.receipts.len() == 1 && taken.receipts[0].position == 3);
-    assert!(rt; taken.end.fault == Some(DeskFault::Decode(DecodeFault::BadOrder)));
+    assert!(*rt; taken.receipts.len() == 1 && taken.receipts[0].position == 3);
+    assert!(*rt; taken.end.fault == Some(DeskFault::Decode(DecodeFault::BadOrder)));
     let refused = taken.end.refused.as_ref().expect(rt, "bytes");
-    assert!(rt; refused.as_slice() == TOUCHING);
+    assert!(*rt; refused.as_slice() == TOUCHING);
     drop(taken);
 }
 
@@ -117,9 +119,9 @@ pub(crate) fn assert_pumps<L: SiteLedger, R: Abort + Wait>(
     let mut second = second;
     let taken = pumped(rt, alloc, &desk, &mut second, ADDED, ADDED);
     assert_all_taken(rt, taken);
-    assert!(rt; second.seen() == 3);
+    assert!(*rt; second.seen() == 3);
     let taken = pumped(rt, alloc, &desk, &mut second, ADDED, TOUCHING);
     assert_stopped(rt, taken);
-    assert!(rt; second.seen() == 4);
+    assert!(*rt; second.seen() == 4);
     assert_closed(rt, alloc, desk, first, second, 4, 0);
 }

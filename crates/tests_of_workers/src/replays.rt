@@ -8,16 +8,16 @@ use std::process::Abort;
 
 // Gives a journal two steps: an add, and a cut.
 fn add_two(rt: &impl Abort, journal: &mut Journaled) {
-    let step = called(rt, journal, 1, &add(rt, b"SIP/1", 0));
-    drop(step);
-    let step = cut(rt, journal, 2);
-    drop(step);
+    let asked = add(rt, b"SIP/1", 0);
+    drop(called(rt, journal, 1, &asked));
+    drop(asked);
+    drop(cut(rt, journal, 2));
 }
 
 // Does the steps again.
 fn replay_all(rt: &impl Abort, steps: &[Step], journal: &mut Journaled) {
     for step in steps {
-        assert!(rt; journal.replay(step).is_ok());
+        assert!(*rt; journal.replay(step).is_ok());
     }
 }
 

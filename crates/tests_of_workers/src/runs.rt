@@ -1,15 +1,16 @@
 //! Sites as threads: that they run at once, and what they come to.
 ghost use Rattle.std.specs.Prelude.{◌≡◌};
 
-use crate::asks::{add, list, request, sales, status};
+use crate::asks::{add, list, sales, status};
+use crate::audits::{assert_explains, audit_fault, events_of};
 use crate::gates::{MANY_TURNS, MeetingGate};
+use crate::journal_steps::{reported, settle_fault};
 use replica::{Command, QueueList, Replica};
 use site_worker::{
     AuditFault, Deed, DeskFault, Gate, Journaled, LinkPlan, Receipt, RunFault, SiteEnd, SiteWork,
-    StepDeed, audit, run_sites, settle,
+    StepDeed, run_sites,
 };
-use sites_world::World;
-use status_report::{Ask, report};
+use status_report::Ask;
 use std::alloc::Global;
 use std::io::Print;
 use std::process::Abort;
@@ -159,35 +160,35 @@ fn assert_takes(rt: &impl Abort, lists: &[Vec<Receipt>], others: &[u8]) {
             let StepDeed::Took(frame) = &receipt.deed else {
                 rt.panic("another deed");
             };
-            assert!(rt; frame.as_slice().get(7).copied() == Some(*other));
+            assert!(*rt; frame.as_slice().get(7).copied() == Some(*other));
         }
     }
 }
 
 // Asserts that the receipts of a site, one of three, settle its journal.
 fn assert_settled(rt: &impl Abort, end: &SiteEnd<TurnsGate>) {
-    assert!(rt; end.receipts.len() == 4);
-    assert!(rt; settle(&end.journal, end.receipts.as_slice()).is_ok());
+    assert!(*rt; end.receipts.len() == 4);
+    assert!(*rt; settle_fault(&end.journal, end.receipts.as_slice()).is_none());
 }
 
 // Asserts what a site ends with that had two asks, of three sites: each ask is a cut, and there are one more and a frame of all.
 fn assert_end(rt: &impl Abort, end: &SiteEnd<TurnsGate>, site: u8, others: &[u8]) {
-    assert!(rt; end.fault.is_none() && end.gate.site == site && end.gate.turns == 2);
+    assert!(*rt; end.fault.is_none() && end.gate.site == site && end.gate.turns == 2);
     assert_settled(rt, end);
-    assert!(rt; end.receipts.len() == 4);
-    assert!(rt; end.receipts[0].len() == 2);
-    assert!(rt; end.receipts[1].len() == 4);
+    assert!(*rt; end.receipts.len() == 4);
+    assert!(*rt; end.receipts[0].len() == 2);
+    assert!(*rt; end.receipts[1].len() == 4);
     let lists = end.receipts.get(2..).expect(rt, "lists");
     assert_takes(rt, lists, others);
 }
 
 // Whether there is memory for the report of a site, which then is what sites show that came to the same.
 fn is_shown(rt: &impl Abort, alloc: Global, replica: &Replica) -> bool {
-    let request = request(alloc);
-    let Ok(shown) = report(alloc, replica, &request) else {
+    let Ok(shown) = reported(alloc, replica) else {
         return false;
     };
-    assert!(rt; shown.as_slice() == REPORT.as_bytes());
+    assert!(*rt; shown.as_slice() == REPORT.as_bytes());
+    drop(shown);
     true
 }
 
@@ -201,23 +202,10 @@ fn is_reported(rt: &impl Abort, alloc: Global, journals: &[Journaled]) -> bool {
     true
 }
 
-// Asserts that the sites of journals show in a world what sites show that came to the same.
-fn assert_shown(rt: &impl Abort, alloc: Global, world: &World, journals: &[Journaled]) {
-    for journal in journals {
-        let replica = world.replica(journal.base().site()).expect(rt, "a site");
-        assert!(rt; is_shown(rt, alloc, replica));
-    }
-}
-
 // Asserts that journals are one run of events, which lead each site of a world to its journal's report.
 fn assert_one_run(rt: &impl Abort, alloc: Global, journals: &[Journaled]) {
-    let events = audit(alloc, journals).ok().expect(rt, "events");
-    let list = list(rt, alloc);
-    let mut world = World::new(alloc, 3, &list).ok().expect(rt, "a world");
-    drop(list);
-    assert!(rt; world.run(events.as_slice()).is_ok());
-    assert_shown(rt, alloc, &world, journals);
-    drop(world);
+    let events = events_of(rt, alloc, journals);
+    assert_explains(rt, alloc, journals, events.as_slice());
     drop(events);
 }
 
@@ -241,7 +229,7 @@ fn move_journals(rt: &impl Abort, ends: Vec<SiteEnd<TurnsGate>>, journals: &mut 
 
 // Asserts that each of three sites has ended as it should.
 fn assert_ends(rt: &impl Abort, ends: &[SiteEnd<TurnsGate>]) {
-    assert!(rt; ends.len() == 3);
+    assert!(*rt; ends.len() == 3);
     assert_end(rt, &ends[0], 0, &[1, 2]);
     assert_end(rt, &ends[1], 1, &[0, 2]);
     assert_end(rt, &ends[2], 2, &[0, 1]);
@@ -318,10 +306,10 @@ fn works_of_senders(rt: &impl Abort, alloc: Global) -> Vec<SiteWork<TurnsGate>> 
 
 // Asserts how many frames a site, one of four, has taken of each other site.
 fn assert_taken(rt: &impl Abort, end: &SiteEnd<TurnsGate>, takes: [usize; 3]) {
-    assert!(rt; end.receipts.len() == 5);
-    assert!(rt; end.receipts[2].len() == takes[0]);
-    assert!(rt; end.receipts[3].len() == takes[1]);
-    assert!(rt; end.receipts[4].len() == takes[2]);
+    assert!(*rt; end.receipts.len() == 5);
+    assert!(*rt; end.receipts[2].len() == takes[0]);
+    assert!(*rt; end.receipts[3].len() == takes[1]);
+    assert!(*rt; end.receipts[4].len() == takes[2]);
 }
 
 // Site 0 delivers its cut, site 1 loses it, site 2 sends it twice, and site 3 holds it up to the end. Each then sends a frame of all.
@@ -329,7 +317,7 @@ fn assert_taken(rt: &impl Abort, end: &SiteEnd<TurnsGate>, takes: [usize; 3]) {
 fn each_site_sends_by_its_own_plan(rt: HostRuntime) {
     let alloc = rt.alloc();
     let ends = ends_of(&rt, alloc, works_of_senders(&rt, alloc));
-    assert!(&rt; ends.len() == 4);
+    assert!(rt; ends.len() == 4);
     assert_taken(&rt, &ends[0], [1, 3, 2]);
     assert_taken(&rt, &ends[1], [2, 3, 2]);
     assert_taken(&rt, &ends[2], [2, 1, 2]);
@@ -340,7 +328,7 @@ fn each_site_sends_by_its_own_plan(rt: HostRuntime) {
 // Whether a site has lacked memory. Its receipts settle its journal, and it has no other fault.
 fn is_stopped(rt: &impl Abort, end: &SiteEnd<TurnsGate>) -> bool {
     assert_settled(rt, end);
-    assert!(rt; matches!(end.fault, None | Some(DeskFault::Memory)));
+    assert!(*rt; matches!(end.fault, None | Some(DeskFault::Memory)));
     end.fault.is_some()
 }
 
@@ -355,16 +343,9 @@ fn is_any_stopped(rt: &impl Abort, ends: &[SiteEnd<TurnsGate>]) -> bool {
 
 // Whether there is memory for an audit, which then tells that journals are one run.
 fn is_audited(rt: &impl Abort, alloc: Global, journals: &[Journaled]) -> bool {
-    match audit(alloc, journals) {
-        Ok(events) => {
-            drop(events);
-            true
-        }
-        Err(fault) => {
-            assert!(rt; fault == AuditFault::Memory);
-            false
-        }
-    }
+    let fault = audit_fault(alloc, journals);
+    assert!(*rt; matches!(fault, None | Some(AuditFault::Memory)));
+    fault.is_none()
 }
 
 // How a run of three sites has ended that lacked memory at most once, as a word: its journals settle and are one run, and where no site
@@ -375,7 +356,7 @@ fn end_of(
     ends: Vec<SiteEnd<TurnsGate>>,
     journals: &mut Vec<Journaled>,
 ) -> &'static str {
-    assert!(rt; ends.len() == 3);
+    assert!(*rt; ends.len() == 3);
     let has_stopped = is_any_stopped(rt, ends.as_slice());
     move_journals(rt, ends, journals);
     if !is_audited(rt, alloc, journals.as_slice()) {
@@ -393,7 +374,7 @@ fn end_of(
 
 // Prints a word on a line of its own.
 fn print(rt: &(impl Abort + Print), word: &str) {
-    assert!(rt; println!(rt; "{word}").is_ok());
+    assert!(*rt; println!(rt; "{word}").is_ok());
 }
 
 // Runs three sites, and prints how that ended; tools/memory_tests.py runs this test with each allocation refused in turn.

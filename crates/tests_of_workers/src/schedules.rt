@@ -8,7 +8,7 @@ use crate::links::link;
 use site_desk::{DeskPort, Pass, SiteDesk, SiteLedger};
 use site_journal::{Bell, DeskFault, Receipt, StepDeed};
 use site_links::{LinkReceiver, LinkSender};
-use site_pumps::{Deed, LinkPlan, Pumped, pump_out};
+use site_pumps::{Deed, LinkPlan, PumpedOut, pump_out};
 use std::alloc::Global;
 use std::process::Abort;
 use std::sync::Wait;
@@ -75,7 +75,7 @@ fn pumped<L: SiteLedger, R: Abort + Wait>(
     bell: AddingBell<'_, L>,
     links: [LinkSender; 2],
     plan: &[Deed],
-) -> Pumped {
+) -> PumpedOut {
     let mut pass = pass;
     let mut bell = bell;
     let mut links = links;
@@ -86,7 +86,7 @@ fn pumped<L: SiteLedger, R: Abort + Wait>(
     drop(plan);
     drop(links);
     drop(pass);
-    assert!(rt; !bell.is_late);
+    assert!(*rt; !bell.is_late);
     drop(bell);
     pumped
 }
@@ -136,10 +136,10 @@ fn is_frame(receipt: &Receipt, bytes: &[u8]) -> bool {
 
 // Asserts that items are the frames of receipts, which are given by their places.
 fn assert_frames(rt: &impl Abort, items: Vec<Vec<u8>>, receipts: &[Receipt], places: &[usize]) {
-    assert!(rt; items.len() == places.len());
+    assert!(*rt; items.len() == places.len());
     for (item, place) in items.as_slice().iter().zip(places) {
         let receipt = receipts.get(*place).expect(rt, "a receipt");
-        assert!(rt; is_frame(receipt, item.as_slice()));
+        assert!(*rt; is_frame(receipt, item.as_slice()));
     }
     drop(items);
 }
@@ -178,8 +178,8 @@ pub(crate) fn assert_sends<L: SiteLedger + Send + Sync, R: Abort + Threads + Wai
         move || pumped(rt, alloc, lent, sending, bell, [first, second], plan),
         move || received(rt, alloc, one, count),
     );
-    assert!(rt; pumped.fault == fault);
-    assert!(rt; pumped.receipts.len() == receipts);
+    assert!(*rt; pumped.fault == fault);
+    assert!(*rt; pumped.receipts.len() == receipts);
     assert_frames(rt, items, pumped.receipts.as_slice(), places);
     let items = received(rt, alloc, other, &uncounted);
     assert_frames(rt, items, pumped.receipts.as_slice(), places);

@@ -102,7 +102,10 @@ fn changed(alloc: Global, held: &mut Delta, change: Change, delta: Delta) -> End
     let (others, other_totals) = delta.into_parts();
     drop(other_totals);
     let end = match change {
-        Change::Join => End::Done,
+        Change::Join => {
+            drop(others);
+            End::Done
+        }
         Change::Set => set_joined(&mut members, others),
         Change::Prepare => prepared(&mut members, others),
         Change::Assert => asserted(&mut members, others),

@@ -51,7 +51,11 @@ fn give_digits<W: Write>(
     digits: &str,
 ) -> io::Result<()> {
     match hex::decode(alloc, digits) {
-        Ok(bytes) => give_bytes(alloc, out, held, kind, &bytes),
+        Ok(bytes) => {
+            let given = give_bytes(alloc, out, held, kind, &bytes);
+            drop(bytes);
+            given
+        }
         Err(FromHexError::OutOfMemory) => Err(io::Error::from(ErrorKind::OutOfMemory)),
         Err(_) => writeln!(out, "no hexadecimal"),
     }

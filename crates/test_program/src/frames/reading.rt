@@ -1,6 +1,6 @@
 //! Reads the held delta: the dots of a member, the dots seen below a dot, and totals that are raised.
 use crate::frames::saying::say_fault;
-use causal_context::ContextFault;
+use causal_context::{Context, ContextFault};
 use delta::Delta;
 use delta_codec::{Frame, decode};
 use dots::{Calls, Dot, Member, QUEUES, SiteId};
@@ -74,15 +74,22 @@ fn say_each_seen<W: Write>(out: &mut W, members: &MemberSet, others: &MemberSet)
     Ok(())
 }
 
+// Writes the runs of a context.
+fn say_runs<W: Write>(out: &mut W, seen: &Context) -> io::Result<()> {
+    for run in seen.iter() {
+        let (first, last, site) = (run.first, run.last, run.site.number());
+        writeln!(out, "seen {first} to {last} of site {site}")?;
+    }
+    Ok(())
+}
+
 // Writes the runs of what is seen below a dot.
 fn say_seen_below<W: Write>(out: &mut W, members: &MemberSet, dot: Dot) -> io::Result<()> {
     match members.seen_below(&[dot]) {
         Ok(seen) => {
-            for run in seen.iter() {
-                let (first, last, site) = (run.first, run.last, run.site.number());
-                writeln!(out, "seen {first} to {last} of site {site}")?;
-            }
-            Ok(())
+            let said = say_runs(out, &seen);
+            drop(seen);
+            said
         }
         Err(ContextFault::Memory) => Err(io::Error::from(ErrorKind::OutOfMemory)),
         Err(fault) => writeln!(out, "refused {fault:?}"),

@@ -24,6 +24,18 @@ pub(crate) fn say_front<W: Write>(alloc: Global, out: &mut W, bytes: &[u8]) -> i
 // the fault, which is repeated at each later byte.
 pub(crate) fn say_stream<W: Write>(alloc: Global, out: &mut W, bytes: &[u8]) -> io::Result<()> {
     let mut splitter = Splitter::new(alloc);
+    let said = say_each_byte(alloc, out, &mut splitter, bytes);
+    drop(splitter);
+    said
+}
+
+// Feeds a stream byte by byte, and writes the frames and faults that come with each byte.
+fn say_each_byte<W: Write>(
+    alloc: Global,
+    out: &mut W,
+    splitter: &mut Splitter,
+    bytes: &[u8],
+) -> io::Result<()> {
     for at in 0..bytes.len() {
         splitter.feed(&bytes[at..at + 1])?;
         say_next(alloc, out, at + 1, splitter.next_frame())?;
@@ -41,8 +53,12 @@ fn say_next<W: Write>(
     match next {
         Ok(None) => Ok(()),
         Ok(Some(frame)) => {
-            say_come(out, come)?;
-            say_frame(alloc, out, &frame)
+            let said = match say_come(out, come) {
+                Ok(()) => say_frame(alloc, out, &frame),
+                Err(error) => Err(error),
+            };
+            drop(frame);
+            said
         }
         Err(fault) => {
             say_come(out, come)?;
@@ -69,7 +85,16 @@ fn say_frame<W: Write>(alloc: Global, out: &mut W, frame: &Frame) -> io::Result<
     let (number, maker) = (frame.number, frame.maker.number());
     writeln!(out, "frame {number} of site {maker}")?;
     say_delta(out, &frame.delta)?;
+    say_spelled(alloc, out, frame)
+}
+
+// Writes the bytes of a frame.
+fn say_spelled<W: Write>(alloc: Global, out: &mut W, frame: &Frame) -> io::Result<()> {
     let bytes = encode(alloc, frame)?;
-    let spelled = hex::encode(alloc, bytes.as_slice())?;
-    writeln!(out, "{spelled}")
+    let spelled = hex::encode(alloc, bytes.as_slice());
+    drop(bytes);
+    let spelled = spelled?;
+    let said = writeln!(out, "{spelled}");
+    drop(spelled);
+    said
 }

@@ -109,9 +109,12 @@ fn some_count(numbers: &mut Numbers) -> Result<Command, RunsFault> {
 }
 
 fn short_status(alloc: Global) -> Result<StatusRequest, RunsFault> {
-    let mut request = whole_status(alloc);
-    request.member = Some(Text80::new(NOBODY)?);
-    Ok(request)
+    let nobody = Text80::new(NOBODY)?;
+    Ok(StatusRequest {
+        queue: None,
+        member: Some(nobody),
+        action_id: Bytes::new(Vec::new(alloc)),
+    })
 }
 
 // The next ask.

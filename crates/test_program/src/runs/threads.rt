@@ -45,13 +45,29 @@ fn some_plan(alloc: Global, numbers: &mut Numbers) -> Result<LinkPlan, RunsFault
     Ok(LinkPlan::new(deeds))
 }
 
-// Random asks.
-fn some_asks(alloc: Global, numbers: &mut Numbers, count: u32) -> Result<Vec<Ask>, RunsFault> {
-    let mut asks = Vec::new(alloc);
+// Appends random asks.
+fn push_asks(
+    alloc: Global,
+    asks: &mut Vec<Ask>,
+    numbers: &mut Numbers,
+    count: u32,
+) -> Result<(), RunsFault> {
     for _ in 0..count {
         asks.push(some_ask(alloc, numbers)?)?;
     }
-    Ok(asks)
+    Ok(())
+}
+
+// Random asks.
+fn some_asks(alloc: Global, numbers: &mut Numbers, count: u32) -> Result<Vec<Ask>, RunsFault> {
+    let mut asks = Vec::new(alloc);
+    match push_asks(alloc, &mut asks, numbers, count) {
+        Ok(()) => Ok(asks),
+        Err(fault) => {
+            drop(asks);
+            Err(fault)
+        }
+    }
 }
 
 // A list of random asks, and a random link plan.
@@ -74,6 +90,20 @@ fn some_work(
     }
 }
 
+// Appends the works of `sites` sites.
+fn push_works(
+    alloc: Global,
+    works: &mut Vec<SiteWork<OpenGate>>,
+    numbers: &mut Numbers,
+    sites: u16,
+    asks: u32,
+) -> Result<(), RunsFault> {
+    for _ in 0..sites {
+        works.push(some_work(alloc, numbers, asks)?)?;
+    }
+    Ok(())
+}
+
 // The works of `sites` sites.
 fn some_works(
     alloc: Global,
@@ -82,10 +112,13 @@ fn some_works(
     asks: u32,
 ) -> Result<Vec<SiteWork<OpenGate>>, RunsFault> {
     let mut works = Vec::new(alloc);
-    for _ in 0..sites {
-        works.push(some_work(alloc, numbers, asks)?)?;
+    match push_works(alloc, &mut works, numbers, sites, asks) {
+        Ok(()) => Ok(works),
+        Err(fault) => {
+            drop(works);
+            Err(fault)
+        }
     }
-    Ok(works)
 }
 
 // The journal of a site that has done all its work, which the receipts of its passes have settled.
@@ -109,15 +142,31 @@ fn settled(end: SiteEnd<OpenGate>) -> Result<Journaled, RunsFault>
     settled
 }
 
+// Appends the journals of all sites.
+fn push_settled(
+    journals: &mut Vec<Journaled>,
+    ends: Vec<SiteEnd<OpenGate>>,
+) -> Result<(), RunsFault>
+    requires { All (λ end. vec_len end.receipts < 2 ^ 32) ends.items }
+{
+    for end in ends {
+        journals.push(settled(end)?)?;
+    }
+    Ok(())
+}
+
 // The journals of all sites.
 fn all_settled(alloc: Global, ends: Vec<SiteEnd<OpenGate>>) -> Result<Vec<Journaled>, RunsFault>
     requires { All (λ end. vec_len end.receipts < 2 ^ 32) ends.items }
 {
     let mut journals = Vec::new(alloc);
-    for end in ends {
-        journals.push(settled(end)?)?;
+    match push_settled(&mut journals, ends) {
+        Ok(()) => Ok(journals),
+        Err(fault) => {
+            drop(journals);
+            Err(fault)
+        }
     }
-    Ok(journals)
 }
 
 // Whether all sites give this report as the first does.

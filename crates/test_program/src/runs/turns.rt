@@ -9,16 +9,30 @@ use dots::Bytes;
 use site_journal::Journaled;
 use std::alloc::Global;
 
+// Appends new sites, each of which is to do `steps` steps.
+fn push_sites(alloc: Global, all: &mut Vec<Site>, sites: u16, steps: u32) -> Result<(), RunsFault>
+    requires some { 1 ≤ steps }
+    requires most { steps ≤ MOST_STEPS }
+{
+    for number in 0..sites {
+        all.push(Site::new(alloc, number, steps)?)?;
+    }
+    Ok(())
+}
+
 // New sites, each of which is to do `steps` steps.
 fn new_sites(alloc: Global, sites: u16, steps: u32) -> Result<Vec<Site>, RunsFault>
     requires some { 1 ≤ steps }
     requires most { steps ≤ MOST_STEPS }
 {
     let mut all = Vec::new(alloc);
-    for number in 0..sites {
-        all.push(Site::new(alloc, number, steps)?)?;
+    match push_sites(alloc, &mut all, sites, steps) {
+        Ok(()) => Ok(all),
+        Err(fault) => {
+            drop(all);
+            Err(fault)
+        }
     }
-    Ok(all)
 }
 
 // Has each site do a step, `steps` times. Their frames are appended to those of all sites.
@@ -37,13 +51,24 @@ fn take_turns(
     Ok(())
 }
 
-// The journals of sites, which the receipts of their steps have settled.
-fn journals_of(alloc: Global, sites: Vec<Site>) -> Result<Vec<Journaled>, RunsFault> {
-    let mut journals = Vec::new(alloc);
+// Appends the journals of sites, which the receipts of their steps have settled.
+fn push_settled(journals: &mut Vec<Journaled>, sites: Vec<Site>) -> Result<(), RunsFault> {
     for site in sites {
         journals.push(site.settled()?)?;
     }
-    Ok(journals)
+    Ok(())
+}
+
+// The journals of sites, which the receipts of their steps have settled.
+fn journals_of(alloc: Global, sites: Vec<Site>) -> Result<Vec<Journaled>, RunsFault> {
+    let mut journals = Vec::new(alloc);
+    match push_settled(&mut journals, sites) {
+        Ok(()) => Ok(journals),
+        Err(fault) => {
+            drop(journals);
+            Err(fault)
+        }
+    }
 }
 
 // The journals of `sites` sites that have done `steps` steps each, in turn, as the receipts of their steps have settled them.

@@ -128,7 +128,10 @@ fn done_at(journal: &mut Journaled, alloc: Global, deed: &Deed) -> End {
         Deed::Whole => end_of(position, journal.whole(PASS)),
         Deed::Take(bytes) => taken(journal, alloc, bytes),
         Deed::Checkpoint => match journal.checkpoint() {
-            Ok(()) => End::Dropped,
+            Ok(dropped) => {
+                drop(dropped);
+                End::Dropped
+            }
             Err(_) => End::Refused(DeskFault::Memory),
         },
         Deed::Gated(_) | Deed::CheckpointAbove(_) => End::Unknown,

@@ -52,7 +52,10 @@ fn give_fronts<R, W: Write, P: Place<R>>(
             break;
         };
         if let Some(bytes) = read_bytes(alloc, front)? {
-            give(rt, alloc, out, place, receipts, &Deed::Take(bytes))?;
+            let deed = Deed::Take(bytes);
+            let given = give(rt, alloc, out, place, receipts, &deed);
+            drop(deed);
+            given?;
         }
     }
     Ok(())
@@ -71,16 +74,34 @@ fn give<R, W: Write, P: Place<R>>(
     if receipts.reserve(1).is_err() {
         return Err(io::Error::from(ErrorKind::OutOfMemory));
     }
-    let mut end = place.done(rt, alloc, deed);
-    if let End::Refused(DeskFault::Memory) = end {
-        writeln!(out, "memory")?;
-        end = place.done(rt, alloc, deed);
+    let end = place.done(rt, alloc, deed);
+    if !matches!(end, End::Refused(DeskFault::Memory)) {
+        return end_line(alloc, out, receipts, end);
     }
-    say_done(alloc, out, &end)?;
-    if let End::Done(receipt) = end {
-        receipts.push(receipt)?;
+    drop(end);
+    writeln!(out, "memory")?;
+    let end = place.done(rt, alloc, deed);
+    end_line(alloc, out, receipts, end)
+}
+
+// Writes how a deed ended, and appends its receipt to the others, if it is a step.
+fn end_line<W: Write>(
+    alloc: Global,
+    out: &mut W,
+    receipts: &mut Vec<Receipt>,
+    end: End,
+) -> io::Result<()> {
+    if let Err(error) = say_done(alloc, out, &end) {
+        drop(end);
+        return Err(error);
     }
-    Ok(())
+    match end {
+        End::Done(receipt) => Ok(receipts.push(receipt)?),
+        other => {
+            drop(other);
+            Ok(())
+        }
+    }
 }
 
 // The deed of a line. `None` if it isn't understood.
@@ -132,22 +153,49 @@ fn read_command(kind: &str, words: &mut Words<'_>) -> Option<Command> {
     match kind {
         "completed" => Some(Command::Completed { queue }),
         "abandoned" => Some(Command::Abandoned { queue }),
-        "remove" => Some(Command::Remove {
-            queue,
-            interface: read_interface(words)?,
-        }),
-        "add" => Some(Command::Add {
-            queue,
-            interface: read_interface(words)?,
-            penalty: Penalty::new(words.next()?.parse().ok()?)?,
-            paused: false,
-            label: Label {
-                name: Text80::empty(),
-                state: Text80::empty(),
-            },
-        }),
-        _ => None,
+        "remove" => read_remove(queue, words),
+        "add" => read_add(queue, words),
+        _ => {
+            drop(queue);
+            None
+        }
     }
+}
+
+// The remove of the interface that is the next word.
+fn read_remove(queue: QueueName, words: &mut Words<'_>) -> Option<Command> {
+    match read_interface(words) {
+        Some(interface) => Some(Command::Remove { queue, interface }),
+        None => {
+            drop(queue);
+            None
+        }
+    }
+}
+
+// The add of the interface that is the next word, with the penalty that is the word after it.
+fn read_add(queue: QueueName, words: &mut Words<'_>) -> Option<Command> {
+    let Some((interface, penalty)) = read_member(words) else {
+        drop(queue);
+        return None;
+    };
+    Some(Command::Add {
+        queue,
+        interface,
+        penalty,
+        paused: false,
+        label: Label {
+            name: Text80::empty(),
+            state: Text80::empty(),
+        },
+    })
+}
+
+fn read_member(words: &mut Words<'_>) -> Option<(Interface, Penalty)> {
+    let of = words.next()?;
+    let penalty = Penalty::new(words.next()?.parse().ok()?)?;
+    let interface = Interface::new(of.as_bytes()).ok()?;
+    Some((interface, penalty))
 }
 
 fn read_interface(words: &mut Words<'_>) -> Option<Interface> {

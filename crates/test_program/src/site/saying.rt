@@ -42,7 +42,9 @@ fn say_deed<W: Write>(alloc: Global, out: &mut W, deed: &StepDeed) -> io::Result
 // Writes a frame as hexadecimal.
 fn say_frame<W: Write>(alloc: Global, out: &mut W, frame: &[u8]) -> io::Result<()> {
     let digits = hex::encode(alloc, frame)?;
-    writeln!(out, "frame {digits}")
+    let said = writeln!(out, "frame {digits}");
+    drop(digits);
+    said
 }
 
 // Writes whether receipts settle a journal, and how many steps it has had.

@@ -1,0 +1,305 @@
+//! Items and acknowledgements, byte by byte.
+ghost use Rattle.std.specs.Prelude.{◌≡◌, ◌<◌, false};
+
+use crate::links::shared::{assert_bytes, bytes, key};
+use ami_text::{MemorySink, MemorySource};
+use link_keys::Key;
+use link_stream::{
+    Acknowledgement, AcknowledgementReceiver, AcknowledgementSender, Item, ItemReceiver,
+    ItemSender, ReceiveFault, SendFault,
+};
+use std::alloc::Global;
+use std::process::Abort;
+
+const ITEM_KEY: &str = "440590076d547d964e03722cfdb1d6d002a63546fcd9120594087237eec1dab9";
+
+const ACKNOWLEDGEMENT_KEY: &str =
+    "bd50641042aa4daddd26bf4905c116ad6b7847c73aa0b23ca299be8eea848c46";
+
+// A frame of site 0 that says nothing.
+const FRAME: &str = "00000018514402000000000000000001000000000000000000000000";
+
+// The same without its last byte.
+const SHORT_FRAME: &str = "000000185144020000000000000000010000000000000000000000";
+
+// A beat, that frame and a beat, each with its tag.
+const FIRST: &str = "0000000040fa884b39795e6eca25722841961eff";
+
+const SECOND: &str =
+    "000000185144020000000000000000010000000000000000000000006914241f30a3f0b15c05f80c4a9b3ea3";
+
+const THIRD: &str = "00000000e65c883af45fb39db86709cd8d38294b";
+
+// The frame under counter 0, a beat under counter 1.
+const REUSED_COUNTER: &str =
+    "00000018514402000000000000000001000000000000000000000000ce969567865731318f68c9c1fcfa9673";
+
+const NEXT_COUNTER: &str = "00000000d5a3c94c5686b7b1f276ee62965b54b3";
+
+// Another maker in the frame, and the frame under the key of acknowledgements, both in the place of the second item.
+const ALTERED: &str =
+    "000000185144020100000000000000010000000000000000000000006914241f30a3f0b15c05f80c4a9b3ea3";
+
+const OTHER_KEY: &str =
+    "000000185144020000000000000000010000000000000000000000000f2a781d3ffae0e9601672c1bca1a093";
+
+// Acknowledgements of 0 and 84 bytes, of a refused frame and of an acceptor that is behind, each with its tag but for the last byte, and one
+// of 0 bytes under the key of items.
+const ACKNOWLEDGED_NONE: &str = "00000000000000000db7564ac6e5c48b6baac676810281";
+
+const ACKNOWLEDGED_84: &str = "00000000000000544929c9ce3f27cb61a61f968d28fda9";
+
+const ACKNOWLEDGED_REFUSED: &str = "fffffffffffffffff51f401b224dc018490d076a65a304";
+
+const ACKNOWLEDGED_BEHIND: &str = "fffffffffffffffedd12a4ad6cd402c9423bd38bc5c5f5";
+
+const UNDER_ITEM_KEY: &str = "00000000000000004b63869ea31f456e1b2f52167b73a3cb";
+
+// The bytes of some parts, each in hexadecimal.
+fn all_bytes(rt: &impl Abort, alloc: Global, parts: &[&str]) -> Vec<u8> {
+    let mut all = Vec::new(alloc);
+    for part in parts {
+        let bytes = bytes(rt, alloc, part);
+        all.extend_from_slice(&bytes).expect(rt, "memory");
+        drop(bytes);
+    }
+    all
+}
+
+// How many items are received from bytes that come at most `most` at a time, up to the first fault, and that fault, which must come again.
+fn received(rt: &impl Abort, alloc: Global, bytes: &[u8], most: usize) -> (usize, ReceiveFault)
+    requires { 0 < most }
+{
+    let mut source = MemorySource::new(bytes, most);
+    let mut receiver = ItemReceiver::new(alloc, key(rt, ITEM_KEY));
+    let mut count = 0;
+    'calls: for _ in 0..400usize {
+        match receiver.recv(&mut source) {
+            Ok(Some(item)) => {
+                drop(item);
+                count += 1;
+            }
+            Ok(None) => {}
+            Err(fault) => {
+                let again = receiver.recv(&mut source);
+                assert!(*rt; again.err() == Some(fault));
+                drop(receiver);
+                drop(source);
+                return (count, fault);
+            }
+        }
+    }
+    rt.panic("no fault")
+}
+
+// Asserts what is received of these parts, whatever the pieces are.
+fn assert_received(
+    rt: &impl Abort,
+    alloc: Global,
+    parts: &[&str],
+    count: usize,
+    fault: ReceiveFault,
+) {
+    let bytes = all_bytes(rt, alloc, parts);
+    assert!(*rt; received(rt, alloc, &bytes, 1) == (count, fault));
+    assert!(*rt; received(rt, alloc, &bytes, 7) == (count, fault));
+    assert!(*rt; received(rt, alloc, &bytes, 100) == (count, fault));
+    drop(bytes);
+}
+
+#[test]
+fn items_come_up_to_the_first_fault(rt: HostRuntime) {
+    let alloc = rt.alloc();
+    let ended = ReceiveFault::Ended;
+    assert_received(&rt, alloc, &[], 0, ended);
+    assert_received(&rt, alloc, &[FIRST, SECOND, THIRD], 3, ended);
+    let cut_off = ReceiveFault::CutOff;
+    assert_received(&rt, alloc, &[FIRST, SECOND, "00"], 2, cut_off);
+    assert_received(&rt, alloc, &[FIRST, "00000018514402"], 1, cut_off);
+    let wrong_tag = ReceiveFault::WrongTag;
+    // A frame under the counter of the beat before it, a beat under the next counter, one that comes twice, one that is left out, two
+    // in another order.
+    assert_received(&rt, alloc, &[FIRST, REUSED_COUNTER], 1, wrong_tag);
+    assert_received(&rt, alloc, &[NEXT_COUNTER], 0, wrong_tag);
+    assert_received(&rt, alloc, &[FIRST, FIRST], 1, wrong_tag);
+    assert_received(&rt, alloc, &[FIRST, THIRD], 1, wrong_tag);
+    assert_received(&rt, alloc, &[SECOND, FIRST, THIRD], 0, wrong_tag);
+    // A frame with another maker, a tag with another last byte, and a frame under the key of acknowledgements.
+    assert_received(&rt, alloc, &[FIRST, ALTERED], 1, wrong_tag);
+    assert_received(
+        &rt,
+        alloc,
+        &["0000000040fa884b39795e6eca25722841961efe"],
+        0,
+        wrong_tag,
+    );
+    assert_received(&rt, alloc, &[FIRST, OTHER_KEY], 1, wrong_tag);
+    let bad_length = ReceiveFault::BadLength;
+    assert_received(&rt, alloc, &[FIRST, "00000017"], 1, bad_length);
+    assert_received(&rt, alloc, &[FIRST, "00800001", SECOND], 1, bad_length);
+}
+
+// Asserts that the next item is a frame of these bytes, or a beat where there are none.
+fn assert_next(
+    rt: &impl Abort,
+    alloc: Global,
+    receiver: &mut ItemReceiver,
+    source: &mut MemorySource<'_>,
+    digits: &str,
+)
+    requires { source.old.failed ≡ false }
+    ensures { source.new.failed ≡ false }
+{
+    'calls: for _ in 0..100 {
+        match receiver.recv(source).expect(rt, "an item") {
+            None => {}
+            Some(Item::Beat) => {
+                assert!(*rt; digits.is_empty());
+                return;
+            }
+            Some(Item::Frame(bytes)) => {
+                assert_bytes(rt, alloc, &bytes, digits);
+                drop(bytes);
+                return;
+            }
+        }
+    }
+    rt.panic("no item")
+}
+
+#[test]
+fn what_is_sent_is_received(rt: HostRuntime) {
+    let alloc = rt.alloc();
+    let frame = bytes(&rt, alloc, FRAME);
+    let mut sink = MemorySink::new(alloc, 5);
+    let mut sender = ItemSender::new(key(&rt, ITEM_KEY));
+    assert!(rt; sender.send_beat(&mut sink) == Ok(()));
+    let short = bytes(&rt, alloc, SHORT_FRAME);
+    let refused = sender.send_frame(&mut sink, &short);
+    drop(short);
+    assert!(rt; refused == Err(SendFault::NotAFrame));
+    assert!(rt; sender.send_frame(&mut sink, &frame) == Ok(()));
+    drop(frame);
+    assert!(rt; sender.send_beat(&mut sink) == Ok(()));
+    drop(sender);
+    let wanted = all_bytes(&rt, alloc, &[FIRST, SECOND, THIRD]);
+    assert!(rt; sink.as_slice() == wanted.as_slice());
+    drop(sink);
+    let mut source = MemorySource::new(&wanted, 3);
+    let mut receiver = ItemReceiver::new(alloc, key(&rt, ITEM_KEY));
+    assert_next(&rt, alloc, &mut receiver, &mut source, "");
+    assert!(rt; receiver.held() == 1);
+    assert_next(&rt, alloc, &mut receiver, &mut source, FRAME);
+    assert_next(&rt, alloc, &mut receiver, &mut source, "");
+    assert!(rt; receiver.held() == 0);
+    drop(receiver);
+    drop(source);
+    drop(wanted);
+}
+
+#[test]
+fn a_sink_and_a_source_fail_in_the_middle(rt: HostRuntime) {
+    let alloc = rt.alloc();
+    let mut sink = MemorySink::failing(alloc, 5, 2);
+    let mut sender = ItemSender::new(key(&rt, ITEM_KEY));
+    assert!(rt; sender.send_beat(&mut sink) == Err(SendFault::Failed));
+    assert_bytes(&rt, alloc, sink.as_slice(), "0000000040fa884b39");
+    drop(sender);
+    drop(sink);
+
+    // Two items come by one read, and are given before the next one fails.
+    let both = all_bytes(&rt, alloc, &[FIRST, SECOND]);
+    let mut source = MemorySource::failing(&both, 100, 1);
+    let mut receiver = ItemReceiver::new(alloc, key(&rt, ITEM_KEY));
+    assert_next(&rt, alloc, &mut receiver, &mut source, "");
+    assert_next(&rt, alloc, &mut receiver, &mut source, FRAME);
+    let received = receiver.recv(&mut source);
+    assert!(rt; received.err() == Some(ReceiveFault::Failed));
+    drop(receiver);
+    drop(source);
+    drop(both);
+}
+
+// The next acknowledgement after a piece was fed, written in hexadecimal.
+fn fed(
+    rt: &impl Abort,
+    alloc: Global,
+    receiver: &mut AcknowledgementReceiver,
+    digits: &str,
+) -> Result<Option<Acknowledgement>, ReceiveFault> {
+    let piece = bytes(rt, alloc, digits);
+    receiver.feed(&piece).expect(rt, "memory");
+    drop(piece);
+    receiver.next_acknowledgement()
+}
+
+// Receives an acknowledgement whose bytes and tag come in two pieces.
+fn assert_back(
+    rt: &impl Abort,
+    alloc: Global,
+    receiver: &mut AcknowledgementReceiver,
+    pieces: [&str; 2],
+    acknowledgement: Acknowledgement,
+) {
+    assert!(*rt; fed(rt, alloc, receiver, pieces[0]) == Ok(None));
+    assert!(*rt; fed(rt, alloc, receiver, pieces[1]) == Ok(Some(acknowledgement)));
+}
+
+#[test]
+fn acknowledgements_come_back(rt: HostRuntime) {
+    let alloc = rt.alloc();
+    let mut receiver = AcknowledgementReceiver::new(alloc, key(&rt, ACKNOWLEDGEMENT_KEY));
+    let taken = Acknowledgement::Taken(0);
+    let pieces = [ACKNOWLEDGED_NONE, "13"];
+    assert_back(&rt, alloc, &mut receiver, pieces, taken);
+    let taken = Acknowledgement::Taken(84);
+    let pieces = [ACKNOWLEDGED_84, "14"];
+    assert_back(&rt, alloc, &mut receiver, pieces, taken);
+    let refused = Acknowledgement::Refused;
+    let pieces = [ACKNOWLEDGED_REFUSED, "8d"];
+    assert_back(&rt, alloc, &mut receiver, pieces, refused);
+    let behind = Acknowledgement::Behind;
+    let pieces = [ACKNOWLEDGED_BEHIND, "7b"];
+    assert_back(&rt, alloc, &mut receiver, pieces, behind);
+
+    // The first one again, and one under the key of items.
+    assert!(rt; fed(&rt, alloc, &mut receiver, ACKNOWLEDGED_NONE) == Ok(None));
+    let wrong = Err(ReceiveFault::WrongTag);
+    assert!(rt; fed(&rt, alloc, &mut receiver, "13") == wrong);
+    assert!(rt; receiver.next_acknowledgement() == wrong);
+    assert!(rt; receiver.feed(b"") == Err(ReceiveFault::WrongTag));
+    drop(receiver);
+    let mut other = AcknowledgementReceiver::new(alloc, key(&rt, ACKNOWLEDGEMENT_KEY));
+    assert!(rt; fed(&rt, alloc, &mut other, UNDER_ITEM_KEY) == wrong);
+    drop(other);
+}
+
+#[test]
+fn acknowledgements_are_sent(rt: HostRuntime) {
+    let alloc = rt.alloc();
+    let mut sink = MemorySink::new(alloc, 100);
+    let mut sender = AcknowledgementSender::new(key(&rt, ACKNOWLEDGEMENT_KEY));
+    let sent = sender.send(&mut sink, Acknowledgement::Taken(0));
+    assert!(rt; sent == Ok(()));
+    let sent = sender.send(&mut sink, Acknowledgement::Taken(84));
+    assert!(rt; sent == Ok(()));
+    let sent = sender.send(&mut sink, Acknowledgement::Refused);
+    assert!(rt; sent == Ok(()));
+    let sent = sender.send(&mut sink, Acknowledgement::Behind);
+    assert!(rt; sent == Ok(()));
+    drop(sender);
+    let parts = [
+        ACKNOWLEDGED_NONE,
+        "13",
+        ACKNOWLEDGED_84,
+        "14",
+        ACKNOWLEDGED_REFUSED,
+        "8d",
+        ACKNOWLEDGED_BEHIND,
+        "7b",
+    ];
+    let wanted = all_bytes(&rt, alloc, &parts);
+    assert!(rt; sink.as_slice() == wanted.as_slice());
+    drop(wanted);
+    drop(sink);
+}
