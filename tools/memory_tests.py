@@ -35,7 +35,7 @@ TESTS = [
         refused={"again": "only delayed its messages"},
     ),
     MemoryTest(
-        crate="tests_of_replicas",
+        crate="tests_of_parts",
         name="frames::a_frame_is_read_and_spelled_again_or_memory_is_wanted",
         what="a frame that is read and spelled",
         whole="spelled",
