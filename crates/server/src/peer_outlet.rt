@@ -37,8 +37,9 @@ impl<'a> PeerOutlet<'a> {
     // Notes that the peer lacks a frame.
     fn note_lack<R: Wait>(&self, rt: &R) {
         let (site, peer) = (self.site.number.number(), self.peer);
-        let line =
-            format!(in self.alloc; "queue_sites: site {peer}: behind site {site}: link full");
+        let line = format!(in self.alloc;
+            "queue_sites: site {peer}: behind site {site}: link full"
+        );
         self.site.clients.events().add(rt, line);
         self.site.lack_frames(rt);
     }
@@ -46,8 +47,7 @@ impl<'a> PeerOutlet<'a> {
     // Notes that the peer lacks no frame any more.
     fn note_whole<R: Wait>(&self, rt: &R) {
         let (site, peer) = (self.site.number.number(), self.peer);
-        let line =
-            format!(in self.alloc; "queue_sites: site {peer}: caught up with site {site}");
+        let line = format!(in self.alloc; "queue_sites: site {peer}: caught up with site {site}");
         self.site.clients.events().add(rt, line);
     }
 

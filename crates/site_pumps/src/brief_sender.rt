@@ -36,12 +36,7 @@ impl Model for BriefSender {
 }
 
 // Offers bytes to a link at most this often, until it takes them. Returns whether it has.
-fn offer_briefly<R: Wait + Clock>(
-    rt: &R,
-    link: &mut LinkSender,
-    bytes: Vec<u8>,
-    most: u32,
-) -> bool
+fn offer_briefly<R: Wait + Clock>(rt: &R, link: &mut LinkSender, bytes: Vec<u8>, most: u32) -> bool
     ensures same { link.new.link ≡ link.old.link }
     ensures sent { MatchBool result (link.new.sent ≡ link.old.sent ++ bytes.items ∷ [])
         (link.new.sent ≡ link.old.sent) }

@@ -86,11 +86,7 @@ fn is_member_wanted(request: &StatusRequest, interface: &Interface, row: &Row<'_
 }
 
 // What the block of each member of a queue begins with, up to the member's name. Fails only when out of memory.
-fn member_front(
-    alloc: Global,
-    request: &StatusRequest,
-    name: &QueueName,
-) -> Result<Vec<u8>, Memory>
+fn member_front(alloc: Global, request: &StatusRequest, name: &QueueName) -> Result<Vec<u8>, Memory>
     ensures { IfOk result (λ front. front.items
         ≡ event_lines request.now.action_id (codes "QueueMember")
         ++ (field (codes "Queue") name.now ++ codes "Name: ")) }

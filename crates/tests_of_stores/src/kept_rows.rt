@@ -119,7 +119,11 @@ fn a_kept_row_that_is_missing_is_found(rt: HostRuntime) {
     assert!(rt; keep_rows(&mut store) == Ok(()));
     put(&rt, alloc, &mut store, 1, ADD);
     replace(&rt, alloc, &mut store, 2);
-    assert!(rt; store.execute("DELETE FROM kept WHERE position = 1", &[]).is_ok());
+    assert!(rt;
+        store
+            .execute("DELETE FROM kept WHERE position = 1", &[])
+            .is_ok()
+    );
     let all = read_history(alloc, &mut store).expect(&rt, "a database");
     assert!(rt; all.is_none());
     drop(all);

@@ -246,7 +246,9 @@ fn a_plan_is_followed_at_each_outlet(rt: HostRuntime) {
         rings: 0,
         has_ended: false,
     };
-    let deeds = Vec::from_slice(alloc, &[Deed::Hold, Deed::Twice, Deed::Lose]).expect(&rt, "memory");
+    let deeds = Vec::from_slice(alloc, &[Deed::Hold, Deed::Twice, Deed::Lose]).expect(
+        &rt, "memory",
+    );
     let plan = LinkPlan::new(deeds);
     let pumped = pump_out(&rt, alloc, &mut port, &mut outlets, &mut bell, &plan);
     assert!(&rt; pumped.fault.is_none() && pumped.receipts.len() == 4);
