@@ -192,6 +192,15 @@ fn is_empty(rt: &HostRuntime, path: &str) -> bool {
     }
 }
 
+// Whether a fault leaves the files of a store that could not be made: the database failed, or no byte could be written.
+fn leaves_files(rt: &HostRuntime, path: &str, fault: &OpenFault) -> bool {
+    match fault {
+        OpenFault::Database(_) => true,
+        OpenFault::CannotOpen => is_empty(rt, path),
+        _ => false,
+    }
+}
+
 // Removes the files of a store that could not be made. A failure leaves them, without a table.
 fn remove_files(rt: &HostRuntime, path: &str, log: &str) {
     let _ = fs::remove_file(rt, path);
@@ -235,8 +244,8 @@ fn open_old_file<S: Start>(
 ///
 /// Errors, in order: `Open` with `NoStore`, if only the log is there, or the file has no bytes or no table: it may have been a store, and a new
 /// site of its number would make dots that others have; `Open`, with the errors of `resume_site_file` except `Blank`; those of
-/// `new_site_file`, and if the database failed the new files are removed. `Open` with `Memory` may stand in place of each. A store that is
-/// refused keeps its rows.
+/// `new_site_file`, and if the database failed, or no byte could be written, the new files are removed. `Open` with `Memory` may stand in
+/// place of each. A store that is refused keeps its rows.
 pub fn open_site_file<S: Start>(
     rt: &HostRuntime,
     path: &str,
@@ -274,8 +283,10 @@ pub fn open_site_file<S: Start>(
         return Err(SiteFileFault::Open(OpenFault::NoStore));
     }
     let made = new_site_file(rt, path, start, site, list, limit, keeps);
-    if let Err(SiteFileFault::Open(OpenFault::Database(_))) = made {
-        remove_files(rt, path, log.as_str());
+    if let Err(SiteFileFault::Open(fault)) = &made {
+        if leaves_files(rt, path, fault) {
+            remove_files(rt, path, log.as_str());
+        }
     }
     made
 }
