@@ -2,7 +2,7 @@
 use crate::clock::millis;
 use crate::peer_links::Peer;
 use crate::window_sink::AcknowledgementReader;
-use crate::{EndReason, OutletFault, PeerLinks, Ring};
+use crate::{EndReason, OutletFault, PeerLinks, Ring, WindowFault};
 use link_keys::Key;
 use link_stream::{Acknowledgement, AcknowledgementReceiver};
 use std::alloc::Global;
@@ -64,6 +64,8 @@ pub(crate) struct StreamAcknowledgements<'a, R, G: Drop> {
     peer: &'a Peer,
     stream: &'a TcpStream,
     receiver: AcknowledgementReceiver,
+    // The last number that came.
+    taken: u64,
     // When it was last looked for one, and when one last came.
     looked: u64,
     came: u64,
@@ -79,6 +81,7 @@ impl<'a, R, G: Drop> Drop for StreamAcknowledgements<'a, R, G> {
             peer: _,
             stream: _,
             receiver,
+            taken: _,
             looked: _,
             came: _,
             ended: _,
@@ -104,6 +107,7 @@ impl<'a, R: Wait + Clock, G: Ring<R> + Drop> StreamAcknowledgements<'a, R, G> {
             peer,
             stream,
             receiver: AcknowledgementReceiver::new(alloc, key),
+            taken: 0,
             looked: now,
             came: now,
             ended: None,
@@ -129,7 +133,16 @@ impl<'a, R: Wait + Clock, G: Ring<R> + Drop> StreamAcknowledgements<'a, R, G> {
         self.links.bell.ring(self.rt);
     }
 
-    // Reads a piece of the acceptor's bytes. Returns the last number in it.
+    // Takes a number, which is not less than the one before it.
+    fn take_number(&mut self, count: u64) -> Result<Option<u64>, OutletFault> {
+        if count < self.taken {
+            return Err(OutletFault::Window(WindowFault::WentBack));
+        }
+        self.taken = count;
+        Ok(Some(count))
+    }
+
+    // Reads a piece of the acceptor's bytes. Returns the last number in it, which is the greatest.
     fn take(&mut self, piece: &[u8]) -> Result<Option<u64>, OutletFault> {
         if let Err(fault) = self.receiver.feed(piece) {
             return Err(OutletFault::Receive(fault));
@@ -137,7 +150,7 @@ impl<'a, R: Wait + Clock, G: Ring<R> + Drop> StreamAcknowledgements<'a, R, G> {
         let mut last = None;
         for _ in 0..PIECE {
             match self.receiver.next_acknowledgement() {
-                Ok(Some(Acknowledgement::Taken(count))) => last = Some(count),
+                Ok(Some(Acknowledgement::Taken(count))) => last = self.take_number(count)?,
                 Ok(Some(Acknowledgement::Behind)) => self.require_whole(),
                 Ok(Some(Acknowledgement::Refused)) => return Err(OutletFault::FrameRefused),
                 Ok(None) => return Ok(last),
