@@ -107,8 +107,8 @@ where
 
 /// Serves a site with a store as `serve_linked_site` serves one without. `replica` is the site as its store has it, and `store` has no
 /// step since. Clients are answered once a frame of each peer was taken, or after 4 seconds. No reply leaves before the step that it
-/// answers for is durable, and no frame before its cut is. What the site takes from peers is saved within 50 ms. Once the store has 10,000
-/// rows or 64 MiB since its base, the site becomes its base.
+/// answers for is durable, and no frame before its cut is. What the site takes from peers is saved 50 ms after the save before. Once the
+/// store has more than 10,000 rows or 64 MiB since its base, the site becomes its base.
 ///
 /// It returns when the site has ended: for one of the reasons of `serve_linked_site`, or as `StoreFailed`, since a commit has failed. Then
 /// no further reply leaves, and two lines are logged, with the cause and the reason. Unless a commit has failed, all steps are saved before

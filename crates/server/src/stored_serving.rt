@@ -248,16 +248,16 @@ where
 /// Serves sites with stores at once, as many as `settings` says: `starts` has the replica and the store of each, in the order of their
 /// numbers 0, 1 and so on. It serves clients as `serve_sites` does, but no reply and no frame leaves a site before its step is in the
 /// site's store. When it begins, each site sends all that it knows to the others, since a frame of before may not have been sent. A site
-/// answers clients once it has taken a frame of each other one, or after 4 seconds.
+/// answers clients once it has taken or refused a frame of each other one, or after 4 seconds.
 ///
-/// What nobody waits for is saved at least every 50 milliseconds. A store that has more than 10,000 rows or 64 MiB beside its base gets a
+/// What nobody waits for is saved 50 ms after the save before. A store that has more than 10,000 rows or 64 MiB beside its base gets a
 /// new base. Once a site has ended, all its steps are in its store.
 ///
 /// If a commit of a store fails, the sessions of its site end without a reply, a line in `events` says why, as
 /// `queue_sites: site 0: store failed: disk full`, and all sites end. The site's output then has the fault. All sites also end if a site
 /// refuses a frame since the store of a site is older than what other sites know of that site; a line says so, as
-/// `queue_sites: site 0: ends: a frame of site 1: not this site's own`. So without a number of `sessions` the call returns only if a site has
-/// failed.
+/// `queue_sites: site 0: ends: rolled back: a frame of site 1: not this site's own`. So without a number of `sessions` the call returns only
+/// if a site has failed.
 ///
 /// Once all sites listen the log has a line for each, as of `serve_sites`. Errors, in order: those of `serve_sites`.
 pub fn serve_stored_sites<

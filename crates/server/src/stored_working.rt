@@ -107,7 +107,7 @@ fn send_by<D: StepStore, L: StoredLedger, R: Wait + Clock>(
 fn log_end<R: Wait>(rt: &R, alloc: Global, site: &Site, peer: SiteId, fault: TakeFault) {
     let (site_number, peer) = (site.number.number(), peer.number());
     let line = format!(in alloc;
-        "queue_sites: site {site_number}: ends: a frame of site {peer}: {fault}"
+        "queue_sites: site {site_number}: ends: rolled back: a frame of site {peer}: {fault}"
     );
     site.clients.events().add(rt, line);
 }
