@@ -12,7 +12,7 @@ pub enum EndReason {
     #[error("asked to end")]
     Asked,
     /// Another site says of this site's number what this site has not made: the number was used before, or its store is an older copy.
-    #[error("another site has frames under this site's number that this site has not made")]
+    #[error("rolled back: another site has frames under this site's number that this site has not made")]
     NotMine,
     /// Another site has other values under the number of a change that this site knows: the number was used twice, as where a store was
     /// lost.
@@ -22,7 +22,7 @@ pub enum EndReason {
     #[error("the site number belongs to another store")]
     TakenNumber,
     /// A peer has seen a later start of this site's store.
-    #[error("the store is an older copy")]
+    #[error("rolled back: the store is an older copy")]
     OlderCopy,
     /// A commit of its store has failed.
     #[error("the store has failed")]
