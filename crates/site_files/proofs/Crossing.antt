@@ -13,7 +13,7 @@ use Rattle.sqlite.below.sqlite_store.specs.contracts.store.FileStoreStore.TheImp
 use Rattle.sqlite.specs.contracts.FileStore as FileStore
 use Rattle.sqlite.specs.contracts.Unknown as Unknown
 use Rattle.sqlite.proofs.FileStore.TheSendSync as file
-use Rattle.step_database.proofs.step_database.StepDatabase.TheSendSync as database
+use Rattle.step_database.proofs.Crossing as rows
 use Rattle.site_files.specs.contracts.site_database.SiteDatabase as SiteDatabase
 
 -- the disk on which the file is
@@ -27,7 +27,7 @@ store_send : IsSend (FileStore.the_row Disk (modelled_disk.ghosts Host.the_row U
 store_send = file.the_send Disk (modelled_disk.ghosts Host.the_row Unknown.the_row host_calls.ghosts modelled_disk.no_dict unknown_start.ghosts modelled_disk.no_dict modelled_disk.no_dict) disk_send
 
 rows_send : IsSend (SiteDatabase.the_field).row
-rows_send = struct_send (shape SiteDatabase.the_type) (database.the_field_send (FileStore.the_row Disk (modelled_disk.ghosts Host.the_row Unknown.the_row host_calls.ghosts modelled_disk.no_dict unknown_start.ghosts modelled_disk.no_dict modelled_disk.no_dict)) (file_store.ghosts Disk (modelled_disk.ghosts Host.the_row Unknown.the_row host_calls.ghosts modelled_disk.no_dict unknown_start.ghosts modelled_disk.no_dict modelled_disk.no_dict) file_store.no_dict) store_send, tt)
+rows_send = struct_send (shape SiteDatabase.the_type) (rows.database_send (FileStore.the_row Disk (modelled_disk.ghosts Host.the_row Unknown.the_row host_calls.ghosts modelled_disk.no_dict unknown_start.ghosts modelled_disk.no_dict modelled_disk.no_dict)) (file_store.ghosts Disk (modelled_disk.ghosts Host.the_row Unknown.the_row host_calls.ghosts modelled_disk.no_dict unknown_start.ghosts modelled_disk.no_dict modelled_disk.no_dict) file_store.no_dict) store_send, tt)
 
 pub database_send : IsSend SiteDatabase.the_row
 database_send = recorded_send (SiteDatabase.the_field).row _ _ ((SiteDatabase.the_type).to_one) rows_send

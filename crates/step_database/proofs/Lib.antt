@@ -2,3 +2,4 @@ pub mod StepRows
 pub mod Stands
 pub mod Kept
 pub mod Found
+pub mod Crossing
