@@ -1,11 +1,26 @@
 -- A site that goes on over the rows that a connection holds.
-use Rattle.std.specs.Prelude.{◌≡◌, ℕ, ◌+◌, ◌-◌, ◌^◌, ◌++◌, List, [], ◌∷◌, drop, length, min, sum_by}
+use Rattle.std.specs.Prelude.{◌≡◌, ℕ, ◌+◌, ◌-◌, ◌^◌, ◌++◌, List, [], ◌∷◌, ⊤, drop, length, min, sum_by}
 use Rattle.sqlite.specs.State.{State}
 use Rattle.stored_steps.specs.Restoring.{IsRestoredSite}
 use Rattle.stored_steps.specs.StartRows.{start_row}
 use Rattle.stored_steps.specs.Stored.{Stored}
+use Rattle.site_store.specs.declared.open_fault.OpenFault.{OpenFault}
+use Rattle.site_store.specs.declared.open_fault.OpenFault.TheVariants.{Blank, CannotOpen, Damaged, Database, Gap, InTransaction, InUse, Memory, NoStore, Site}
 use Rattle.site_store.specs.declared.resuming.ResumedSite.{ResumedSite}
 use Rattle.site_store.specs.Steps.{Holds, LeavesOnly}
+
+-- rows are refused: a position is missing, or they are no store of the site
+abbrev pub IsOfRows : OpenFault → Type 0
+IsOfRows InUse = ⊥
+IsOfRows CannotOpen = ⊥
+IsOfRows NoStore = ⊥
+IsOfRows Damaged = ⊥
+IsOfRows Blank = ⊥
+IsOfRows Gap = ⊤
+IsOfRows (Site fault) = ⊤
+IsOfRows InTransaction = ⊥
+IsOfRows (Database error) = ⊥
+IsOfRows Memory = ⊥
 
 -- how many bytes the body of a row has
 abbrev pub body_bytes : Stored → ℕ

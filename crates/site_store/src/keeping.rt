@@ -1,5 +1,5 @@
 //! The table of kept rows: those in whose place a base was put.
-ghost use Rattle.std.specs.Prelude.{◌≡◌, ◌⊎◌, ◌++◌, [], ℕ, List, IsTrue, OnOk};
+ghost use Rattle.std.specs.Prelude.{◌≡◌, ◌⊎◌, ◌++◌, [], ℕ, List, IsTrue, Ok, OnOk};
 ghost use Rattle.sqlite.specs.Held.{state};
 ghost use Rattle.sqlite.specs.State.{HasCleanDisk};
 ghost use Rattle.sqlite.specs.Tree.{Trees};
@@ -46,7 +46,8 @@ pub fn keep_rows<S: Alter>(conn: &mut Connection<S>) -> Result<(), OpenFault>
         → Holds (state S.Store conn.old) first list
         → (state S.Store conn.old).now.schema ≡ step_schema
         → OnOk result (HoldsAll (state S.Store conn.new) first [] list) }
-    ensures keeps { (state S.Store conn.old).now.schema ≡ kept_schema → conn.new ≡ conn.old }
+    ensures keeps { (state S.Store conn.old).now.schema ≡ kept_schema
+        → (result ≡ Ok tt) × (conn.new ≡ conn.old) }
     ensures steps { HasCleanDisk (state S.Store conn.new) → (first : ℕ) (list : List Stored)
         → Holds (state S.Store conn.old) first list
         → OnOk result (Holds (state S.Store conn.new) first list) }

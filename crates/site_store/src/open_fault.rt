@@ -1,3 +1,5 @@
+ghost use Rattle.site_store.specs.Resumed.{IsOfRows};
+
 use sqlite::{Error, ErrorCode};
 use stored_steps::StoreFault;
 use thiserror::Error;
@@ -38,7 +40,9 @@ pub enum OpenFault {
 }
 
 // What an error of the database is, as the fault of an open.
-pub(crate) fn open_fault(error: Error) -> OpenFault {
+pub(crate) fn open_fault(error: Error) -> OpenFault
+    ensures { IsOfRows result → ⊥ }
+{
     match error {
         Error::SqliteFailure(ErrorCode::DatabaseBusy) => OpenFault::InUse,
         Error::SqliteFailure(ErrorCode::CannotOpen) => OpenFault::CannotOpen,

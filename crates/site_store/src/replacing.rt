@@ -28,6 +28,11 @@ fn clear_steps<S: Alter>(conn: &mut Connection<S>) -> Result<(), Error>
         → HoldsAll (state S.Store conn.old) first kept list
         → OnOk result (((state S.Store conn.new).now.schema ≡ kept_schema)
         × Lists ((state S.Store conn.new).now.trees 1) first (kept ++ list)) }
+    ensures schema { HasCleanDisk (state S.Store conn.new)
+        → IsTrue (state S.Store conn.old).in_transaction → (first : ℕ) (list : List Stored)
+        → Holds (state S.Store conn.old) first list
+        → OnOk result ((state S.Store conn.new).now.schema
+        ≡ (state S.Store conn.old).now.schema) }
     ensures crash { HasCleanDisk (state S.Store conn.new)
         → IsTrue (state S.Store conn.old).in_transaction → (first : ℕ) (list : List Stored)
         → Holds (state S.Store conn.old) first list
@@ -57,6 +62,11 @@ pub fn replace_base<S: Alter>(
         → IfOk result (λ done. IsTrue done
         → Holds (state S.Store conn.new) at (base.now ∷ [])
         × LeavesOnly (state S.Store conn.new) at (base.now ∷ [])) }
+    // A store begins to keep rows by `keep_rows` alone.
+    ensures schema { HasCleanDisk (state S.Store conn.new) → (first : ℕ) (list : List Stored)
+        → Holds (state S.Store conn.old) first list
+        → IfOk result (λ done. IsTrue done
+        → (state S.Store conn.new).now.schema ≡ (state S.Store conn.old).now.schema) }
     ensures idle { HasCleanDisk (state S.Store conn.new) → (first : ℕ) (list : List Stored)
         → Holds (state S.Store conn.old) first list
         → IfOk result (λ done. IsTrue done → IsIdle (state S.Store conn.new)) }

@@ -1,16 +1,17 @@
 //! A site that goes on over its store.
 ghost use Rattle.std.specs.Prelude.{◌≡◌, ◌≢◌, ◌⊎◌, ◌≤◌, ◌<◌, ◌^◌, ◌+◌, ◌-◌, ◌++◌, ◌∷◌, [], ℕ, List};
-ghost use Rattle.std.specs.Prelude.{Err, IfOk, IsTrue, OnOk, drop, false, length, min, sum_by};
+ghost use Rattle.std.specs.Prelude.{Err, IfErr, IfOk, IsTrue, OnOk, drop, false, length, min, sum_by};
 ghost use Rattle.sqlite.specs.Held.{state};
-ghost use Rattle.sqlite.specs.State.{HasCleanDisk};
+ghost use Rattle.sqlite.specs.State.{HasCleanDisk, IsUnchanged};
 ghost use Rattle.sqlite.specs.Tree.{Trees};
 ghost use Rattle.site_journal.specs.declared.journaled.TheConstants.{MOST_STEPS};
 ghost use Rattle.stored_steps.specs.Restoring.{IsRestoredSite};
 ghost use Rattle.stored_steps.specs.StartRows.{start_row};
 ghost use Rattle.stored_steps.specs.Stored.{Stored};
 ghost use Rattle.site_store.specs.declared.open_fault.OpenFault.{OpenFault};
+ghost use Rattle.site_store.specs.Kept.{SparesKept};
 ghost use Rattle.site_store.specs.Steps.{Holds, IsIdle, IsStoreSchema, LeavesOnly, Lists};
-ghost use Rattle.site_store.specs.Resumed.{IsRestoredAt, IsResumed, body_bytes};
+ghost use Rattle.site_store.specs.Resumed.{IsOfRows, IsRestoredAt, IsResumed, body_bytes};
 
 use crate::OpenFault;
 use crate::open_fault::open_fault;
@@ -88,6 +89,13 @@ fn listed_rows<S: Alter>(alloc: Global, conn: &mut Connection<S>) -> Result<List
         → Holds (state S.Store conn.old) first rows
         → (db : Trees) → (state S.Store conn.new).may_leave db
         → (state S.Store conn.old).may_leave db }
+    ensures same { HasCleanDisk (state S.Store conn.new)
+        → IsStoreSchema (state S.Store conn.old).now.schema
+        → OnOk result (IsUnchanged (state S.Store conn.old) (state S.Store conn.new)) }
+    ensures unchanged { HasCleanDisk (state S.Store conn.new)
+        → IsStoreSchema (state S.Store conn.old).now.schema
+        → IfErr result (λ fault. IsOfRows fault
+        → IsUnchanged (state S.Store conn.old) (state S.Store conn.new)) }
     ensures fits { IfOk result (λ it. it.first + length it.steps.items < LAST_POSITION) }
     ensures clean { HasCleanDisk (state S.Store conn.new) → HasCleanDisk (state S.Store conn.old) }
 {
@@ -133,6 +141,13 @@ fn restore_rows<S: Alter>(
         → Holds (state S.Store conn.old) first rows
         → (db : Trees) → (state S.Store conn.new).may_leave db
         → (state S.Store conn.old).may_leave db }
+    ensures same { HasCleanDisk (state S.Store conn.new)
+        → IsStoreSchema (state S.Store conn.old).now.schema
+        → OnOk result (IsUnchanged (state S.Store conn.old) (state S.Store conn.new)) }
+    ensures unchanged { HasCleanDisk (state S.Store conn.new)
+        → IsStoreSchema (state S.Store conn.old).now.schema
+        → IfErr result (λ fault. IsOfRows fault
+        → IsUnchanged (state S.Store conn.old) (state S.Store conn.new)) }
     ensures fits { IfOk result (λ it. it.next < LAST_POSITION) }
     ensures site { IfOk result (λ it. it.site.journal.replica.site ≡ site) }
     ensures names { IfOk result (λ it. it.site.journal.replica.names ≡ list.now) }
@@ -181,6 +196,10 @@ fn add_start<S: Alter>(alloc: Global, conn: &mut Connection<S>, at: u64) -> Resu
         → Holds (state S.Store conn.old) first rows → at ≡ first + length rows
         → (db : Trees) → (state S.Store conn.new).may_leave db
         → (state S.Store conn.old).may_leave db ⊎ Lists (db 0) first (rows ++ start_row ∷ []) }
+    ensures spared { HasCleanDisk (state S.Store conn.new)
+        → IsStoreSchema (state S.Store conn.old).now.schema
+        → OnOk result (SparesKept (state S.Store conn.old) (state S.Store conn.new)) }
+    ensures fault { IfErr result (λ fault. IsOfRows fault → ⊥) }
     ensures clean { HasCleanDisk (state S.Store conn.new) → HasCleanDisk (state S.Store conn.old) }
 {
     let Ok(row) = StoredRow::of_start(alloc) else {
@@ -234,6 +253,15 @@ pub fn resume<S: Alter>(
         → Holds (state S.Store conn.old) first rows → rows ≢ []
         → (db : Trees) → (state S.Store conn.new).may_leave db
         → (state S.Store conn.old).may_leave db ⊎ Lists (db 0) first (rows ++ start_row ∷ []) }
+    // The kept rows stay.
+    ensures spared { HasCleanDisk (state S.Store conn.new)
+        → IsStoreSchema (state S.Store conn.old).now.schema
+        → OnOk result (SparesKept (state S.Store conn.old) (state S.Store conn.new)) }
+    // Rows that make no site stay as they are.
+    ensures unchanged { HasCleanDisk (state S.Store conn.new)
+        → IsStoreSchema (state S.Store conn.old).now.schema
+        → IfErr result (λ fault. IsOfRows fault
+        → IsUnchanged (state S.Store conn.old) (state S.Store conn.new)) }
     ensures clean { HasCleanDisk (state S.Store conn.new) → HasCleanDisk (state S.Store conn.old) }
 {
     if !conn.is_autocommit() {

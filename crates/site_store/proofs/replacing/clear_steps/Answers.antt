@@ -32,3 +32,18 @@ returns-clause-cleared g c clean inside first list holds at =
     let dropped = c.in_ok-drop_steps.ensures.dropped clean_dropped inside bare in
     let made = c.in_ok-make_steps.ensures.made clean dropped.0.mode dropped.1 at in
     (inside_then old (state g.S.Store c.drop_steps.new.conn) (state g.S.Store c.make_steps.new.conn) dropped.0 made.0, made.2)
+
+pub returns-then-keeps_rows-clause-schema : goal.returns-then-keeps_rows-clause-schema
+returns-then-keeps_rows-clause-schema g c clean inside first list holds =
+    let passed : IsTrue c.keeps_rows.result = search rules in
+    let has : (state g.S.Store c.args.conn.now).now.schema ≡ kept_schema = sym c.schema.ensures.value ∙ c.keeps_rows.ensures.0 passed in
+    on_ok c.move_rows.result _ _ (λ it. it.1 ∙ sym has) (c.move_rows.ensures.moved clean inside has first list holds.rows)
+
+pub returns-clause-schema : goal.returns-clause-schema
+returns-clause-schema g c clean inside first list holds =
+    let clean_dropped = c.make_steps.ensures.clean clean in
+    let old = state g.S.Store c.args.conn.now in
+    let missed : c.keeps_rows.result ≡ false = search rules in
+    let bare = bare_schema old.now.schema holds.schema (λ kept. true≢false (sym (c.keeps_rows.ensures.1 (c.schema.ensures.value ∙ kept)) ∙ missed)) in
+    let dropped = c.in_ok-drop_steps.ensures.dropped clean_dropped inside bare in
+    (c.in_ok-make_steps.ensures.made clean dropped.0.mode dropped.1 first).1 ∙ sym bare

@@ -1,4 +1,5 @@
-use Rattle.std.proofs.Common.{◌+◌, ◌++◌, ◌∷◌, [], List, inl, inr, length, arith, subst, sym, ◌∙◌}
+use Rattle.std.proofs.Common.{◌+◌, ◌++◌, ◌∷◌, [], List, inl, inr, length, ap, arith, subst, sym, ◌∙◌}
+use Rattle.sqlite.specs.Effect.{Database}
 use Rattle.sqlite.specs.Held.{state}
 use Rattle.sqlite.specs.Order.{Row}
 use Rattle.site_store.specs.Steps.{Lists}
@@ -149,3 +150,14 @@ returns-in_err-clear_steps-clause-moved_crash g c clean first kept list holds pl
     let old = state g.S.Store c.args.conn.now in
     let there = holds_same old (state g.S.Store c.begin.new.conn) (first + length kept) list begun.0 (steps_of_all old first kept list holds) in
     inl (c.begin.ensures.crash clean_begun db (c.clear_steps.ensures.crash clean begun.1.mode (first + length kept) list there db may))
+
+pub returns-clause-schema : goal.returns-clause-schema
+returns-clause-schema g c clean first list holds _ =
+    let clean_put = c.commit.ensures.clean clean in
+    let clean_cleared = c.append.ensures.clean clean_put in
+    let clean_begun = c.clear_steps.ensures.clean clean_cleared in
+    let begun = c.in_ok-begin.ensures.begun clean_begun in
+    let there = holds_same (state g.S.Store c.args.conn.now) (state g.S.Store c.begin.new.conn) first list begun.0 holds in
+    let cleared = c.in_ok-clear_steps.ensures.cleared clean_cleared begun.1.mode first list there c.args.at in
+    let put = c.in_ok-append.ensures.spared clean_put cleared.1.schema in
+    ap (λ (d : Database). d.schema) (c.in_ok-commit.ensures.done clean).now ∙ put.schema ∙ c.in_ok-clear_steps.ensures.schema clean_cleared begun.1.mode first list there ∙ ap (λ (d : Database). d.schema) begun.0

@@ -1,5 +1,8 @@
-use Rattle.std.proofs.Common.{ℕ, ◌+◌, IsTrue, inl, inr, ap, ◌∙◌, rules}
+use Rattle.std.proofs.Common.{ℕ, ◌+◌, IsTrue, inl, inr, ap, subst, sym, ◌∙◌, rules}
+use Rattle.sqlite.specs.Effect.{Database}
 use Rattle.sqlite.specs.Held.{state}
+use Rattle.site_store.specs.Steps.{IsStoreSchema}
+use Rattle.site_store.proofs.GroupLemmas.{spared_same, spared_then}
 use Rattle.site_store.proofs.InsideLemmas.{is_outside}
 use Rattle.site_store.proofs.resuming.resume.Goals as goal
 
@@ -74,3 +77,11 @@ returns-in-Ok-clause-found g c clean schema =
       holds = c.in-Ok.ensures.added clean was.first was.rows there was.next_is;
       leaves = c.in-Ok.ensures.durable clean was.first was.rows there was.next_is (c.in_ok-site.ensures.mode read was.first was.rows was.holds ∙ outside);
     }
+
+pub returns-in-Ok-clause-spared : goal.returns-in-Ok-clause-spared
+returns-in-Ok-clause-spared g c clean schema =
+    let old = state g.S.Store c.args.conn.now in
+    let read = state g.S.Store c.restore_rows.new.conn in
+    let same = (c.in_ok-site.ensures.same (c.add_start.ensures.clean clean) schema).0.now_is in
+    let there = subst (λ (d : Database). IsStoreSchema d.schema) (sym same) schema in
+    spared_then old read (state g.S.Store c.add_start.new.conn) (spared_same old read same) (c.in-Ok.ensures.spared clean there)
