@@ -1,5 +1,5 @@
 -- What a crash leaves of steps.
-use Rattle.std.proofs.Common.{◌≡◌, ◌⊎◌, ◌+◌, ◌-◌, ◌^◌, ◌++◌, min, ⊎_elim, ℕ, List, [], ◌∷◌, length, sym, subst, subst₂, arith, append-nil, length-append}
+use Rattle.std.proofs.Common.{◌≡◌, ◌⊎◌, ◌+◌, ◌-◌, ◌^◌, ◌++◌, min, ⊎_elim, ℕ, List, [], ◌∷◌, length, sym, subst, subst₂, ◌∙◌, arith, append-nil, length-append}
 use Rattle.sqlite.specs.Order.{Row}
 use Rattle.sqlite.specs.State.{State}
 use Rattle.sqlite.specs.Tree.{Trees}
@@ -10,8 +10,9 @@ use Rattle.stored_steps.specs.Bases.{IsRowOfBase}
 use Rattle.stored_steps.specs.StartRows.{start_row}
 use Rattle.stored_steps.specs.Stored.{Stored}
 use Rattle.site_store.specs.declared.resuming.ResumedSite.{ResumedSite}
+use Rattle.site_store.specs.Kept.{HoldsAll, SparesKept}
 use Rattle.site_store.specs.Resumed.{IsResumed}
-use Rattle.site_store.specs.Steps.{Holds, LeavesOnly, Lists}
+use Rattle.site_store.specs.Steps.{Holds, LeavesOnly, Lists, kept_schema, step_schema}
 use Rattle.step_database.specs.Standing.{AreRowsOf, StandForSteps, StoreOrigin}
 use Rattle.step_database.specs.Databases.{BeginsWith, Keeps, Stores}
 use Rattle.step_database.proofs.Stands.{stand_anew, stand_begun, stand_on}
@@ -79,3 +80,17 @@ pub base_stands : (s : State) (origin : StoreOrigin) (next : ℕ) (steps : List 
     → IsRowOfBase (record { replica = site; name = name; starts = starts }) row → name ≡ origin.name → starts ≡ origin.starts → StandForSteps origin (row ∷ []) steps
 base_stands s origin next steps site row name starts it lead of names counts =
     stand_anew origin it.rows steps site row it.stand lead (subst₂ (λ (n : List ℕ) (k : ℕ). IsRowOfBase (record { replica = site; name = n; starts = k }) row) names counts of)
+
+-- ---- the rows that a store has kept
+
+-- where other steps are held, and schema and kept rows stay, a store holds these behind the kept rows
+pub all_spared : (old new : State) (first : ℕ) (kept rows more : List Stored) → HoldsAll old first kept rows → Holds new (first + length kept) more → SparesKept old new → HoldsAll new first kept more
+all_spared old new first kept rows more holds steps spared = record {
+  schema = spared.schema ∙ holds.schema;
+  all = record { kept_are = subst (λ (all : List Row). Lists all first kept) (sym spared.kept) holds.all.kept_are; list_are = steps.rows };
+}
+
+-- a store that was to keep rows keeps them
+pub keeps_then : (old new : State) (first : ℕ) (rows : List Stored) → Holds old first rows → (old.now.schema ≡ step_schema → HoldsAll new first [] rows) → (old.now.schema ≡ kept_schema → new.now.schema ≡ kept_schema)
+    → new.now.schema ≡ kept_schema
+keeps_then old new first rows holds made kept = ⊎_elim (λ bare. (made bare).schema) kept holds.schema

@@ -1,11 +1,14 @@
 ghost use Rattle.std.specs.Prelude.{◌≡◌, ◌≢◌, ◌≤◌, ◌++◌, ◌∷◌, [], ℕ, List, IfOk, min, ◌+◌, ◌-◌, ◌^◌};
+ghost use Rattle.std.specs.Prelude.{IsErrOf, IsTrue, false};
 ghost use Rattle.site_journal.specs.declared.journaled.TheConstants.{MOST_STEPS};
 ghost use Rattle.sqlite.specs.Held.{state};
 ghost use Rattle.sqlite.specs.State.{HasCleanDisk};
 ghost use Rattle.stored_steps.specs.StartRows.{start_row};
 ghost use Rattle.stored_steps.specs.Stored.{Stored};
+ghost use Rattle.site_store.specs.Kept.{HoldsAll};
 ghost use Rattle.site_store.specs.Resumed.{IsResumed};
-ghost use Rattle.site_store.specs.Steps.{Holds};
+ghost use Rattle.site_store.specs.Steps.{Holds, IsStoreSchema, kept_schema};
+ghost use Rattle.site_store.specs.declared.open_fault.OpenFault.{OpenFault};
 ghost use Rattle.step_database.specs.Databases.{Keeps, Stores};
 
 use crate::ready_base::ReadyBase;
@@ -115,11 +118,24 @@ impl<S: Alter + Drop> StepDatabase<S> {
         requires most { limit ≤ MOST_STEPS }
         ensures site { IfOk result (λ it. it.1.replica.site ≡ site) }
         ensures names { IfOk result (λ it. it.1.replica.names ≡ list.now) }
+        ensures limit { IfOk result (λ it. it.1.limit ≡ limit) }
+        ensures no_store { (IsStoreSchema (state S.Store conn).now.schema → ⊥)
+            → IsErrOf result OpenFault.NoStore }
         ensures begun { IfOk result (λ it. it.0.origin.begun ≡ it.1.replica) }
         ensures rows { IfOk result (λ it. HasCleanDisk (state S.Store it.0.conn)
             → (first : ℕ) (rows : List Stored)
             → Holds (state S.Store conn) first rows → rows ≢ []
             → Holds (state S.Store it.0.conn) first (rows ++ start_row ∷ [])) }
+        ensures kept { IfOk result (λ it. HasCleanDisk (state S.Store it.0.conn) → IsTrue keeps
+            → (state S.Store it.0.conn).now.schema ≡ kept_schema) }
+        ensures schema { IfOk result (λ it. HasCleanDisk (state S.Store it.0.conn)
+            → keeps ≡ false
+            → (state S.Store it.0.conn).now.schema ≡ (state S.Store conn).now.schema) }
+        // The rows that the store has kept stay.
+        ensures spared { IfOk result (λ it. HasCleanDisk (state S.Store it.0.conn)
+            → (first : ℕ) (kept rows : List Stored)
+            → HoldsAll (state S.Store conn) first kept rows → rows ≢ []
+            → HoldsAll (state S.Store it.0.conn) first kept (rows ++ start_row ∷ [])) }
         ensures clean { IfOk result (λ it. HasCleanDisk (state S.Store it.0.conn)
             → HasCleanDisk (state S.Store conn)) }
         ensures holds { IfOk result (λ it. HasCleanDisk (state S.Store it.0.conn)

@@ -1,9 +1,13 @@
 //! What a store writes: the rows of steps, and a base in the place of rows.
-ghost use Rattle.std.specs.Prelude.{◌≡◌, ◌++◌, ◌∷◌, [], List, IfOk, OnOk};
+ghost use Rattle.std.specs.Prelude.{◌≡◌, ◌⊎◌, ◌+◌, ◌++◌, ◌∷◌, [], ℕ, List, IfOk, OnOk};
+ghost use Rattle.std.specs.Prelude.{length};
 ghost use Rattle.sqlite.specs.Held.{state};
 ghost use Rattle.sqlite.specs.State.{HasCleanDisk};
+ghost use Rattle.sqlite.specs.Tree.{Trees};
 ghost use Rattle.site_journal.specs.declared.step.Step.{Step};
 ghost use Rattle.stored_steps.specs.StepRows.{IsWithinLimits, rows_of};
+ghost use Rattle.stored_steps.specs.Stored.{Stored};
+ghost use Rattle.site_store.specs.Kept.{HoldsAll, LeavesAll, ListsAll};
 ghost use Rattle.step_database.specs.Standing.{AreRowsOf, StandForSteps, StoreOrigin};
 ghost use Rattle.step_database.specs.Databases.{Keeps, Stores};
 
@@ -74,6 +78,18 @@ pub(crate) fn append_rows<S: Alter>(
         → (origin : StoreOrigin) (steps more : List Step)
         → Stores (state S.Store conn.old) origin at steps → AreRowsOf rows.now more
         → Keeps (state S.Store conn.new) origin steps }
+    // The rows that the store has kept stay, also over a crash.
+    ensures spared { HasCleanDisk (state S.Store conn.new) → (first : ℕ) (kept list : List Stored)
+        → HoldsAll (state S.Store conn.old) first kept list
+        → at ≡ first + length kept + length list
+        → OnOk result (HoldsAll (state S.Store conn.new) first kept (list ++ rows.now)
+        × LeavesAll (state S.Store conn.new) first kept (list ++ rows.now)) }
+    ensures spared_crash { HasCleanDisk (state S.Store conn.new)
+        → (first : ℕ) (kept list : List Stored)
+        → HoldsAll (state S.Store conn.old) first kept list
+        → at ≡ first + length kept + length list
+        → (db : Trees) → (state S.Store conn.new).may_leave db
+        → (state S.Store conn.old).may_leave db ⊎ ListsAll db first kept (list ++ rows.now) }
     ensures clean { HasCleanDisk (state S.Store conn.new) → HasCleanDisk (state S.Store conn.old) }
 {
     let count = rows.len() as u64;
@@ -103,6 +119,19 @@ pub(crate) fn put_base<S: Alter>(
         → Stores (state S.Store conn.old) origin at steps
         → StandForSteps origin (row.now ∷ []) steps
         → Keeps (state S.Store conn.new) origin steps }
+    // A store that keeps rows has them behind those that it has kept, also over a crash.
+    ensures moved { HasCleanDisk (state S.Store conn.new) → (first : ℕ) (kept list : List Stored)
+        → HoldsAll (state S.Store conn.old) first kept list
+        → at ≡ first + length kept + length list
+        → OnOk result (HoldsAll (state S.Store conn.new) first (kept ++ list) (row.now ∷ [])
+        × LeavesAll (state S.Store conn.new) first (kept ++ list) (row.now ∷ [])) }
+    ensures moved_crash { HasCleanDisk (state S.Store conn.new)
+        → (first : ℕ) (kept list : List Stored)
+        → HoldsAll (state S.Store conn.old) first kept list
+        → at ≡ first + length kept + length list
+        → (db : Trees) → (state S.Store conn.new).may_leave db
+        → (state S.Store conn.old).may_leave db
+        ⊎ ListsAll db first (kept ++ list) (row.now ∷ []) }
     ensures clean { HasCleanDisk (state S.Store conn.new) → HasCleanDisk (state S.Store conn.old) }
 {
     if at > LAST_POSITION {
