@@ -1,15 +1,18 @@
 //! Opens the file of a site's store.
-ghost use Rattle.std.specs.Prelude.{◌≡◌, ◌≢◌, ◌≤◌, ◌++◌, ◌∷◌, [], ℕ, List, IfOk};
+ghost use Rattle.std.specs.Prelude.{◌≡◌, ◌≢◌, ◌≤◌, ◌++◌, ◌∷◌, [], ℕ, List, IfOk, IsTrue, codes};
+ghost use Rattle.std.specs.Prelude.{decimal, false, string_bytes, true};
 ghost use Rattle.sqlite.specs.Files.{HoldsDatabase, file_state};
 ghost use Rattle.sqlite.specs.Held.{state};
 ghost use Rattle.sqlite.specs.State.{HasCleanDisk};
 ghost use Rattle.sqlite.specs.Tree.{Trees};
 ghost use Rattle.sqlite.specs.WalFiles.{image_at};
-ghost use Rattle.replica.specs.Site.{IsSameSite};
+ghost use Rattle.replica.specs.Deeds.{IsNew};
+ghost use Rattle.replica.specs.Site.{IsSameSite, SiteState};
 ghost use Rattle.site_journal.specs.declared.journaled.TheConstants.{MOST_STEPS};
+ghost use Rattle.stored_steps.specs.Bases.{IsRowOfBase};
 ghost use Rattle.stored_steps.specs.StartRows.{start_row};
 ghost use Rattle.stored_steps.specs.Stored.{Stored};
-ghost use Rattle.site_store.specs.Steps.{Holds, Lists};
+ghost use Rattle.site_store.specs.Steps.{Holds, Lists, kept_schema};
 ghost use Rattle.step_database.specs.Databases.{Keeps, Stores};
 
 use crate::{OpenedFile, SiteFile, SiteFileFault};
@@ -25,7 +28,10 @@ use step_database::StepDatabase;
 use stored_steps::{NAME_BYTES, StoredRow, row_of_base};
 
 /// The name of the file of this site's store in a folder: `FOLDER/site-K.db`. Fails only when out of memory.
-pub fn file_of_site(alloc: Global, folder: &str, site: SiteId) -> Result<String, Memory> {
+pub fn file_of_site(alloc: Global, folder: &str, site: SiteId) -> Result<String, Memory>
+    ensures { IfOk result (λ path. string_bytes path
+        ≡ folder.now ++ (codes "/site-" ++ (decimal site ++ codes ".db"))) }
+{
     let number = site.number();
     let path = format!(in alloc; "{folder}/site-{number}.db")?;
     Ok(path)
@@ -64,6 +70,9 @@ fn resume_connection<S: Alter + Drop>(
         → Stores (state S.Store it.store.conn) it.store.origin it.store.next []) }
     ensures keeps { IfOk result (λ it. HasCleanDisk (state S.Store it.store.conn)
         → Keeps (state S.Store it.store.conn) it.store.origin []) }
+    ensures kept { IfOk result (λ it. HasCleanDisk (state S.Store it.store.conn) → IsTrue keeps
+        → (state S.Store it.store.conn).now.schema ≡ kept_schema) }
+    ensures is_new { IfOk result (λ it. it.is_new ≡ is_new) }
 {
     let (store, journal) = StepDatabase::resume(alloc, conn, site, list, limit, keeps)?;
     let replica = journal.replica().copy();
@@ -89,7 +98,8 @@ fn resume_connection<S: Alter + Drop>(
 /// place a base is put; a store that has begun to keep rows goes on.
 ///
 /// Errors, in order: those of `open` of `site_store`, of which `Blank` leaves a file without a table where none was; those of `resume`
-/// and `keep_rows` of `site_store`, at which the rows stay. `Memory` may stand in place of each but `InUse` and `CannotOpen`.
+/// of `site_store`, and those of its `keep_rows`, after which the row of this start stands. The other rows stay at each of these. `Memory` may
+/// stand in place of each but `InUse` and `CannotOpen`.
 pub fn resume_site_file<S: Start>(
     rt: &HostRuntime,
     path: &str,
@@ -115,6 +125,10 @@ pub fn resume_site_file<S: Start>(
         → Stores (file_state it.store.conn) it.store.origin it.store.next []) }
     ensures keeps { IfOk result (λ it. HasCleanDisk (file_state it.store.conn)
         → Keeps (file_state it.store.conn) it.store.origin []) }
+    // If the caller wants it, the store keeps the rows in whose place a base is put.
+    ensures kept { IfOk result (λ it. HasCleanDisk (file_state it.store.conn) → IsTrue keeps
+        → (file_state it.store.conn).now.schema ≡ kept_schema) }
+    ensures is_new { IfOk result (λ it. it.is_new ≡ false) }
 {
     let conn = open(rt, path, start)?;
     resume_connection(rt.alloc(), conn, site, list, limit, keeps, false)
@@ -126,7 +140,10 @@ fn new_base(
     site: SiteId,
     list: &QueueList,
     name: &[u8; NAME_BYTES],
-) -> Result<StoredRow, Memory> {
+) -> Result<StoredRow, Memory>
+    ensures { IfOk result (λ row. (fresh : SiteState) × IsNew fresh
+        × IsRowOfBase (record { replica = fresh; name = name.now; starts = 0 }) row) }
+{
     let replica = Replica::new(alloc, site, list.copy()?);
     let row = row_of_base(alloc, &replica, name, 0);
     drop(replica);
@@ -158,6 +175,15 @@ pub fn new_site_file<S: Start>(
         → Stores (file_state it.store.conn) it.store.origin it.store.next []) }
     ensures keeps { IfOk result (λ it. HasCleanDisk (file_state it.store.conn)
         → Keeps (file_state it.store.conn) it.store.origin []) }
+    // If the caller wants it, the store keeps the rows in whose place a base is put.
+    ensures kept { IfOk result (λ it. HasCleanDisk (file_state it.store.conn) → IsTrue keeps
+        → (file_state it.store.conn).now.schema ≡ kept_schema) }
+    // The site is a new one, at its first start.
+    ensures new { IfOk result (λ it. HasCleanDisk (file_state it.store.conn)
+        → (fresh : SiteState) × IsNew fresh × IsSameSite fresh it.replica) }
+    ensures first { IfOk result (λ it. HasCleanDisk (file_state it.store.conn)
+        → it.starts ≡ 1) }
+    ensures is_new { IfOk result (λ it. it.is_new ≡ true) }
 {
     let mut name = [0u8; NAME_BYTES];
     if let Err(error) = rt.fill_bytes(&mut name) {
@@ -228,6 +254,14 @@ fn open_old_file<S: Start>(
         → Stores (file_state it.store.conn) it.store.origin it.store.next []) }
     ensures keeps { IfOk result (λ it. HasCleanDisk (file_state it.store.conn)
         → Keeps (file_state it.store.conn) it.store.origin []) }
+    // If the caller wants it, the store keeps the rows in whose place a base is put.
+    ensures kept { IfOk result (λ it. HasCleanDisk (file_state it.store.conn) → IsTrue keeps
+        → (file_state it.store.conn).now.schema ≡ kept_schema) }
+    ensures rows { IfOk result (λ it. HasCleanDisk (file_state it.store.conn)
+        → (db : Trees) (first : ℕ) (rows : List Stored)
+        → HoldsDatabase (image_at S.Start) db → Lists (db 0) first rows → rows ≢ []
+        → Holds (file_state it.store.conn) first (rows ++ start_row ∷ [])) }
+    ensures is_new { IfOk result (λ it. it.is_new ≡ false) }
 {
     if is_empty(rt, path) {
         drop(start);
@@ -245,7 +279,8 @@ fn open_old_file<S: Start>(
 /// Errors, in order: `Open` with `NoStore`, if only the log is there, or the file has no bytes or no table: it may have been a store, and a new
 /// site of its number would make dots that others have; `Open`, with the errors of `resume_site_file` except `Blank`; those of
 /// `new_site_file`, and if the database failed, or no byte could be written, the new files are removed. `Open` with `Memory` may stand in
-/// place of each. A store that is refused keeps its rows.
+/// place of each. A store that is refused keeps its rows. After `Memory`, or a crash while the file is made, a file without a table may be
+/// left: each later call says `NoStore` until the file and its log are removed.
 pub fn open_site_file<S: Start>(
     rt: &HostRuntime,
     path: &str,
@@ -266,6 +301,20 @@ pub fn open_site_file<S: Start>(
         → Stores (file_state it.store.conn) it.store.origin it.store.next []) }
     ensures keeps { IfOk result (λ it. HasCleanDisk (file_state it.store.conn)
         → Keeps (file_state it.store.conn) it.store.origin []) }
+    // If the caller wants it, the store keeps the rows in whose place a base is put.
+    ensures kept { IfOk result (λ it. HasCleanDisk (file_state it.store.conn) → IsTrue keeps
+        → (file_state it.store.conn).now.schema ≡ kept_schema) }
+    // A store that isn't new has the rows that the file held, and then that of this start.
+    ensures rows { IfOk result (λ it. it.is_new ≡ false
+        → HasCleanDisk (file_state it.store.conn)
+        → (db : Trees) (first : ℕ) (rows : List Stored)
+        → HoldsDatabase (image_at S.Start) db → Lists (db 0) first rows → rows ≢ []
+        → Holds (file_state it.store.conn) first (rows ++ start_row ∷ [])) }
+    // A new one is of a new site, at its first start.
+    ensures new { IfOk result (λ it. IsTrue it.is_new → HasCleanDisk (file_state it.store.conn)
+        → (fresh : SiteState) × IsNew fresh × IsSameSite fresh it.replica) }
+    ensures first { IfOk result (λ it. IsTrue it.is_new
+        → HasCleanDisk (file_state it.store.conn) → it.starts ≡ 1) }
 {
     if !is_missing(rt, path) {
         return match open_old_file(rt, path, start, site, list, limit, keeps) {

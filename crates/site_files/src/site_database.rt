@@ -62,6 +62,18 @@ impl StepStore for SiteDatabase {
 }
 
 impl StoreInFile for SiteDatabase {
+    ghost use Rattle.std.specs.Prelude.{◌≡◌};
+    ghost use Rattle.sqlite.specs.Files.{file_state};
+    ghost use Rattle.sqlite.specs.State.{HasCleanDisk};
+    ghost use Rattle.site_store.specs.Steps.{kept_schema};
+
+    ghost name = { λ store. store.rows.origin.name };
+
+    ghost starts = { λ store. store.rows.origin.starts };
+
+    ghost keeps_rows = { λ store. HasCleanDisk (file_state store.rows.conn)
+        → (file_state store.rows.conn).now.schema ≡ kept_schema };
+
     fn open_site(
         rt: &HostRuntime,
         place: StorePath<'_>,

@@ -1,4 +1,4 @@
-ghost use Rattle.std.specs.Prelude.{◌≡◌, ◌≤◌, [], IfOk};
+ghost use Rattle.std.specs.Prelude.{◌≡◌, ◌≤◌, [], IfOk, IsTrue};
 ghost use Rattle.replica.specs.Site.{IsSameSite};
 ghost use Rattle.site_journal.specs.declared.journaled.TheConstants.{MOST_STEPS};
 
@@ -18,6 +18,17 @@ pub struct StorePath<'a> {
 
 /// A store of a site that lies in a file (this project's own).
 pub trait StoreInFile: StepStore {
+    ghost use Rattle.std.specs.Prelude.{ℕ, List};
+
+    /// The bytes that name the store for ever.
+    ghost name: { Self → List ℕ };
+
+    /// How often the site was started over the store, with the last start.
+    ghost starts: { Self → ℕ };
+
+    /// The store keeps the rows in whose place a base is put.
+    ghost keeps_rows: { Self → Type 0 };
+
     /// The site whose store is the file `place`, with these queues, and a new site where no file is. While the store's steps are done
     /// again `limit` of them are in memory, 1 to 1,000,000. Errors are those of `open_site_file`.
     fn open_site(
@@ -33,5 +44,8 @@ pub trait StoreInFile: StepStore {
         ensures names { IfOk result (λ it. it.replica.names ≡ list.now) }
         ensures begun { IfOk result (λ it. IsSameSite (Self.begun it.store) it.replica) }
         ensures holds { IfOk result (λ it. Self.holds it.store []) }
-        ensures keeps { IfOk result (λ it. Self.keeps it.store []) };
+        ensures keeps { IfOk result (λ it. Self.keeps it.store []) }
+        ensures name { IfOk result (λ it. it.name ≡ Self.name it.store) }
+        ensures starts { IfOk result (λ it. it.starts ≡ Self.starts it.store) }
+        ensures kept { IfOk result (λ it. IsTrue place.entry.keeps → Self.keeps_rows it.store) };
 }
