@@ -98,8 +98,8 @@ fn resume_connection<S: Alter + Drop>(
 /// place a base is put; a store that has begun to keep rows goes on.
 ///
 /// Errors, in order: those of `open` of `site_store`, of which `Blank` leaves a file without a table where none was; those of `resume`
-/// of `site_store`, and those of its `keep_rows`, after which the row of this start stands. The other rows stay at each of these. `Memory` may
-/// stand in place of each but `InUse` and `CannotOpen`.
+/// of `site_store`, and those of its `keep_rows`, after which the row of this start stands. The other rows stay at each of these. `Memory`
+/// may stand in place of each but `InUse` and `CannotOpen`.
 pub fn resume_site_file<S: Start>(
     rt: &HostRuntime,
     path: &str,

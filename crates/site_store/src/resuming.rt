@@ -1,6 +1,7 @@
 //! A site that goes on over its store.
 ghost use Rattle.std.specs.Prelude.{◌≡◌, ◌≢◌, ◌⊎◌, ◌≤◌, ◌<◌, ◌^◌, ◌+◌, ◌-◌, ◌++◌, ◌∷◌, [], ℕ, List};
-ghost use Rattle.std.specs.Prelude.{Err, IfErr, IfOk, IsTrue, OnOk, drop, false, length, min, sum_by};
+ghost use Rattle.std.specs.Prelude.{Err, IfErr, IfOk, IsTrue, OnOk, drop, false, length, min};
+ghost use Rattle.std.specs.Prelude.{sum_by};
 ghost use Rattle.sqlite.specs.Held.{state};
 ghost use Rattle.sqlite.specs.State.{HasCleanDisk, IsUnchanged};
 ghost use Rattle.sqlite.specs.Tree.{Trees};
