@@ -8,7 +8,12 @@ mod exit;
 mod reading;
 mod script_input;
 mod secret_file;
+mod site_request;
+mod store_request;
+mod words;
 
 pub use exit::Exit;
 pub use reading::{Request, read_command_line};
 pub use script_input::run_input;
+pub use site_request::{SiteAddresses, SiteRequest};
+pub use store_request::StoreRequest;

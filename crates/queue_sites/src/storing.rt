@@ -1,0 +1,61 @@
+//! Serves sites over stores, which are files.
+use crate::failed;
+use crate::serving::{are_in_range, refuse_numbers};
+use ami_text::StdSink;
+use command_line::{Exit, StoreRequest};
+use event_log::EventLog;
+use replica::QueueList;
+use serving_clients::ServerSettings;
+use site_files::{SiteDatabase, StorePath};
+use site_service::serve_site_files;
+use std::alloc::Global;
+use std::io;
+use std::net::{Net, TcpListener, TcpStream};
+use std::sync::{Arc, Wait};
+use std::thread::Threads;
+use std::time::Clock;
+
+// Where the stores are that are requested.
+pub(crate) fn place_of(store: &StoreRequest) -> StorePath<'_> {
+    StorePath {
+        path: store.path.as_str(),
+        keeps: store.keeps,
+    }
+}
+
+// Serves sites, whose stores are in a folder, until the program is stopped. It ends if all sites have ended, and the log has said why.
+pub(crate) fn serve<
+    R: AllocGlobal
+        + Print
+        + Eprint
+        + Net<Listener = TcpListener, Stream = TcpStream>
+        + Threads
+        + Wait
+        + Clock
+        + Sync,
+>(
+    rt: &R,
+    host: &HostRuntime,
+    settings: &ServerSettings,
+    list: &QueueList,
+    folder: &StoreRequest,
+    events: &Arc<EventLog, Global>,
+) -> io::Result<Exit> {
+    if !are_in_range(settings) {
+        return refuse_numbers(rt);
+    }
+    let mut log = StdSink::new(io::writer(rt));
+    match serve_site_files::<_, SiteDatabase, _>(
+        rt,
+        host,
+        settings,
+        list,
+        place_of(folder),
+        None,
+        &mut log,
+        events,
+    ) {
+        Ok(()) => Ok(Exit::Failed),
+        Err(fault) => failed(rt, &fault),
+    }
+}
