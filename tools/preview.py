@@ -3,8 +3,9 @@
     ./queue_sites preview [--seconds N] WORDS..
 
 WORDS are those of the program. `rt try` compiles it with checks, anew each time, and then runs it
-for at most N seconds: 600 of `serve`, else 60, where N is not given. Nothing below an out/ of a
-crate is read or written.
+for at most N seconds: 600 of `serve` and `site`, else 60, where N is not given. Nothing below an
+out/ of a crate is read or written. The program runs in a new folder, which is gone at its end: name
+files and folders by their whole paths.
 
 Standard output is the program's. Standard error is one line that says what this run is, and then
 the program's. The exit status is the program's, unless the run does not reach the program's end.
@@ -32,7 +33,8 @@ from crates import folder
 USAGE = """Usage: queue_sites preview [--seconds N] WORDS..
 
 Runs `queue_sites WORDS..` without any proof, about a minute after the start, for at most N seconds.
-N is 1 to 86400; where it is not given 600 of `serve`, else 60.
+N is 1 to 86400; where it is not given 600 of `serve` and `site`, else 60. Name files by their whole
+paths.
 Example: queue_sites preview serve 2 5038 admin s3 sales"""
 NOTE = (
     "queue_sites: preview: nothing is proved in this run; its output comes once it is compiled,"
@@ -98,7 +100,7 @@ def split_words(words):
         seconds = int(given)
     if not words:
         raise Ended(WRONG_WORDS, f"the words of the program are missing\n\n{USAGE}")
-    return seconds or (600 if words[0] == "serve" else 60), words
+    return seconds or (600 if words[0] in ("serve", "site") else 60), words
 
 
 def given_input():

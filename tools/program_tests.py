@@ -78,6 +78,101 @@ def wrong_words(program):
     check(program, ["script", "1", b"\xff"], 2, told=b"queue_sites: the arguments are no text\n")
 
 
+def check_order(program, words, wrong, rows):
+    """Needs the errors of a command line in their order, where all is wrong at first. A row has the status and the text of an
+    error, and what puts it right."""
+    for status, told, right in rows:
+        check(program, words(**wrong), status, told=told, limit=60)
+        wrong |= right
+
+
+def write_secrets(room):
+    """Writes files of secrets. Returns the path of a secret, and of a file that is missing."""
+    for name, text in (("secret", "s3\n"), ("short", "15 characters..\n"), ("shared", "16 characters...\n")):
+        with open(f"{room}/{name}", "w", encoding="ascii") as file:
+            file.write(text)
+    return f"{room}/secret", f"{room}/none"
+
+
+NO_FILE = b"No such file or directory (os error 2)\n"
+TAKEN = "Address already in use (os error 98)\n"
+
+
+def errors_of_serve(program, room):
+    """The errors of `serve` in their order: of its words, of its secret's file, of a store and of a port."""
+    secret, missing = write_secrets(room)
+    with socket.create_server(("127.0.0.1", 0)) as taken:
+        port = str(taken.getsockname()[1])
+
+        def words(sites, store, bind, queues, file, user):
+            return ["serve", "--bind", bind, "--secret-file", file, *store, sites, port, user, *queues]
+
+        wrong = {"sites": "9", "store": ["--keep"], "bind": "nowhere", "queues": ["a", "a"], "file": missing, "user": "a" * 81}
+        check_order(program, words, wrong, [
+            (2, b"error: invalid value '9' for '<SITES>'", {"sites": "1"}),
+            (2, b"queue_sites: --keep without --store\n", {"store": ["--keep", "--store", missing]}),
+            (2, b"queue_sites: bad address\n", {"bind": "127.0.0.1"}),
+            (2, b"queue_sites: bad queue list\n", {"queues": ["a"]}),
+            (1, b"queue_sites: cannot read the secret's file: " + NO_FILE, {"file": secret}),
+            (2, b"queue_sites: bad text\n", {"user": "admin"}),
+            (1, f"queue_sites: store {missing}/site-0.db: cannot open\n".encode(), {"store": ["--keep", "--store", room]}),
+            (1, f"queue_sites: cannot listen on {port}: {TAKEN}".encode(), {}),
+        ])
+
+
+def errors_of_site(program, room):
+    """The errors of `site` in their order: of its words, of the files of its secrets, of its ports, of its store and of its output."""
+    secret, missing = write_secrets(room)
+    store = f"{room}/none/store"
+    with socket.create_server(("127.0.0.1", 0)) as taken:
+        port = f"127.0.0.1:{taken.getsockname()[1]}"
+
+        def words(number, store, clients, links, peers, queues, file, user, shared):
+            found = [word for peer in peers for word in ("--peer", peer)]
+            files = ["--secret-file", file, "--link-secret-file", shared]
+            return ["site", number, user, *queues, *files, *store, "--clients", clients, "--links", links, *found]
+
+        wrong = {"number": "64", "store": ["--volatile", "--keep"], "clients": "nowhere", "links": "nowhere", "peers": ["nowhere"] * 65,
+                 "queues": ["a", "a"], "file": missing, "user": "a" * 81, "shared": missing}
+        check_order(program, words, wrong, [
+            (2, b"error: invalid value '64' for '<NUMBER>'", {"number": "63"}),
+            (2, b"queue_sites: --keep without --store\n", {"store": ["--keep", "--store", store]}),
+            (2, b"queue_sites: bad address of clients\n", {"clients": port}),
+            (2, b"queue_sites: bad address of links\n", {"links": port}),
+            (2, b"queue_sites: bad address of a peer\n", {"peers": ["127.0.0.1:9"] * 65}),
+            (2, b"queue_sites: more than 64 peers\n", {"peers": ["127.0.0.1:9"] * 64}),
+            (2, b"queue_sites: bad queue list\n", {"queues": ["a"]}),
+            (1, b"queue_sites: cannot read the secret's file: " + NO_FILE, {"file": secret}),
+            (2, b"queue_sites: bad text\n", {"user": "admin"}),
+            (1, b"queue_sites: cannot read the link secret's file: " + NO_FILE, {"shared": f"{room}/short"}),
+            (2, b"queue_sites: bad link secret\n", {"shared": f"{room}/shared"}),
+            (1, f"queue_sites: cannot listen on {port}: {TAKEN}".encode(), {"clients": "127.0.0.1:0"}),
+            (1, f"queue_sites: cannot listen on {port}: {TAKEN}".encode(), {"links": "127.0.0.1:0"}),
+            (1, f"queue_sites: store {store}: cannot open\n".encode(), {"store": ["--keep", "--store", f"{room}/store"]}),
+        ])
+        with open("/dev/full", "wb") as full:
+            check(program, words(**wrong), 1, told=b"queue_sites: write failed\n", out=full, limit=60)
+
+
+def wrong_words_of_site(program):
+    """Errors for words of `site` that are missing, out of range or no addresses."""
+    right = ["site", "3", "admin", "a", "--secret-file", "none", "--link-secret-file", "none", "--volatile"]
+    missing, no_secret = b"required arguments were not provided", b"queue_sites: cannot read the secret's file: " + NO_FILE
+    for at in (3, 4, 6, 8):
+        check(program, right[:at] + right[at + (2 if at in (4, 6) else 1):], 2, told=missing)
+    check(program, [*right, "--store", "none"], 2, told=b"cannot be used with")
+    for option, value, name in (("sessions", "0", "N"), ("sessions", "65", "N"), ("idle", "-1", "SECONDS"), ("idle", "soon", "SECONDS")):
+        check(program, [*right, f"--{option}={value}"], 2, told=f"invalid value '{value}' for '--{option} <{name}>'".encode())
+    for word in ("", "127.0.0.1", ":5038", "127.0.0.1:", "127.0.0.1:65536", "::1:5038", "[::1]", "host:http"):
+        for option, what in (("clients", "clients"), ("links", "links"), ("peer", "a peer")):
+            check(program, [*right, f"--{option}={word}"], 2, told=f"queue_sites: bad address of {what}\n".encode())
+    for word in ("127.0.0.1:65535", "[::1]:5038", "host.example:5038"):
+        for option in ("clients", "links", "peer"):
+            check(program, [*right, f"--{option}={word}"], 1, told=no_secret)
+    for option in ("--sessions=1", "--sessions=64", "--idle=0"):
+        check(program, [*right, option], 1, told=no_secret)
+
+
 def failures(program, room):
     """Errors for a script that can't be read, is too long, or whose output can't be written."""
     directory = os.open(room, os.O_RDONLY)
@@ -218,6 +313,10 @@ def run_all(is_gate_passed=False):
         for program in programs:
             statuses(program)
             wrong_words(program)
+            wrong_words_of_site(program)
+            for errors in (errors_of_serve, errors_of_site):
+                with tempfile.TemporaryDirectory() as files:
+                    errors(program, files)
             failures(program, room)
         from_another_folder(room)
         first_example()

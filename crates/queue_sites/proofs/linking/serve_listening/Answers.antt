@@ -1,0 +1,7 @@
+use denote.Param.Send.{sendable}
+use Rattle.std.proofs.Crossing.{crosses}
+use Rattle.std.proofs.MapsCrossing as maps
+use Rattle.queue_sites.proofs.linking.serve_listening.Goals as goal
+
+pub serve_linked_file-requires-send-D : goal.serve_linked_file-requires-send-D
+serve_linked_file-requires-send-D g c κs within = search (sendable, crosses, maps.crosses) depth 60 fits 20000
