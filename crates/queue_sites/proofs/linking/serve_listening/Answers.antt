@@ -1,7 +1,6 @@
-use denote.Param.Send.{sendable}
-use Rattle.std.proofs.Crossing.{crosses}
-use Rattle.std.proofs.MapsCrossing as maps
+use Rattle.site_files.proofs.Crossing.{database_send}
 use Rattle.queue_sites.proofs.linking.serve_listening.Goals as goal
 
+-- a store in a file may cross threads
 pub serve_linked_file-requires-send-D : goal.serve_linked_file-requires-send-D
-serve_linked_file-requires-send-D g c κs within = search (sendable, crosses, maps.crosses) depth 60 fits 20000
+serve_linked_file-requires-send-D g c κs within = database_send
