@@ -1,3 +1,6 @@
+ghost use Rattle.std.specs.Prelude.{◌≡◌, ◌≢◌, IfOk, IfSome, IsSomeAnd, None, Ok, OnErr, OnOk, Some};
+ghost use Rattle.std.specs.Prelude.{string_bytes, true};
+
 use crate::exit::Exit;
 use crate::secret_file::{SecretFault, read_secret};
 use crate::site_request::{SiteAddresses, SiteRequest};
@@ -140,10 +143,19 @@ fn script_request(alloc: Global, words: &ScriptWords<'_>) -> Result<Request, Ref
     Ok(Request::Script(sites, list))
 }
 
-fn serve_request<R: Files + AllocGlobal>(
-    rt: &R,
-    words: &ServeWords<'_>,
-) -> Result<Request, Refusal> {
+fn serve_request<R: Files + AllocGlobal>(rt: &R, words: &ServeWords<'_>) -> Result<Request, Refusal>
+    ensures numbers { (it : _) (list : _) (store : _) → result ≡ Ok (Request.Serve it list store)
+        → (it.sites ≡ words.now.sites) × (it.port ≡ words.now.port)
+        × (it.places ≡ words.now.session.places) }
+    ensures volatile { (it : _) (list : _) (store : _)
+        → result ≡ Ok (Request.Serve it list store) → words.now.store.path ≡ None
+        → store ≡ None }
+    ensures path { (it : _) (list : _) (store : _) (path : _)
+        → result ≡ Ok (Request.Serve it list store) → words.now.store.path ≡ Some path
+        → IsSomeAnd store (λ it. string_bytes it.path ≡ path.now) }
+    ensures keeps { (it : _) (list : _) (store : _) → result ≡ Ok (Request.Serve it list store)
+        → IfSome store (λ it. it.keeps ≡ words.now.store.keeps) }
+{
     check_store(words.store)?;
     let Ok(address) = words.address.parse::<IpAddr>() else {
         return Err(Refusal::Wrong("bad address"));
@@ -174,7 +186,22 @@ fn serve_request<R: Files + AllocGlobal>(
     Ok(Request::Serve(settings, list, store))
 }
 
-fn site_request<R: Files + AllocGlobal>(rt: &R, words: &SiteWords<'_>) -> Result<Request, Refusal> {
+fn site_request<R: Files + AllocGlobal>(rt: &R, words: &SiteWords<'_>) -> Result<Request, Refusal>
+    ensures number { (it : _) → result ≡ Ok (Request.Site it) → it.site ≡ words.now.number }
+    ensures places { (it : _) → result ≡ Ok (Request.Site it)
+        → it.places ≡ words.now.session.places }
+    ensures clients { (it : _) → result ≡ Ok (Request.Site it)
+        → string_bytes it.addresses.clients ≡ words.now.clients.now }
+    ensures links { (it : _) → result ≡ Ok (Request.Site it)
+        → string_bytes it.addresses.links ≡ words.now.links.now }
+    ensures volatile { (it : _) → result ≡ Ok (Request.Site it)
+        → words.now.store.path ≡ None → it.store ≡ None }
+    ensures path { (it : _) (path : _) → result ≡ Ok (Request.Site it)
+        → words.now.store.path ≡ Some path
+        → IsSomeAnd it.store (λ store. string_bytes store.path ≡ path.now) }
+    ensures keeps { (it : _) → result ≡ Ok (Request.Site it)
+        → IfSome it.store (λ store. store.keeps ≡ words.now.store.keeps) }
+{
     let Some(site) = SiteId::new(words.number) else {
         return Err(Refusal::Wrong("bad number of a site"));
     };
@@ -209,7 +236,11 @@ fn site_request<R: Files + AllocGlobal>(rt: &R, words: &SiteWords<'_>) -> Result
 }
 
 // Checks that no rows are kept where nothing is stored.
-fn check_store(words: StoreWords<'_>) -> Result<(), Refusal> {
+fn check_store(words: StoreWords<'_>) -> Result<(), Refusal>
+    ensures keeps { OnErr result (words.entry.keeps ≡ true) }
+    ensures nowhere { OnErr result (words.entry.path ≡ None) }
+    ensures somewhere { OnOk result (words.entry.keeps ≡ true → words.entry.path ≢ None) }
+{
     if words.keeps && words.path.is_none() {
         Err(Refusal::Wrong("--keep without --store"))
     } else {
@@ -280,7 +311,14 @@ fn link_key<R: Files>(rt: &R, file: &str) -> Result<Key, Refusal> {
 fn places_of(
     alloc: Global,
     words: &SiteWords<'_>,
-) -> Result<(Option<StoreRequest>, SiteAddresses), AllocError> {
+) -> Result<(Option<StoreRequest>, SiteAddresses), AllocError>
+    ensures clients { IfOk result (λ it. string_bytes it.1.clients ≡ words.now.clients.now) }
+    ensures links { IfOk result (λ it. string_bytes it.1.links ≡ words.now.links.now) }
+    ensures none { words.now.store.path ≡ None → IfOk result (λ it. it.0 ≡ None) }
+    ensures path { (path : _) → words.now.store.path ≡ Some path
+        → IfOk result (λ it. IsSomeAnd it.0 (λ store. string_bytes store.path ≡ path.now)) }
+    ensures keeps { IfOk result (λ it. IfSome it.0 (λ store. store.keeps ≡ words.now.store.keeps)) }
+{
     let addresses = addresses_of(alloc, words)?;
     match store_of(alloc, words.store) {
         Ok(store) => Ok((store, addresses)),
@@ -291,7 +329,10 @@ fn places_of(
     }
 }
 
-fn addresses_of(alloc: Global, words: &SiteWords<'_>) -> Result<SiteAddresses, AllocError> {
+fn addresses_of(alloc: Global, words: &SiteWords<'_>) -> Result<SiteAddresses, AllocError>
+    ensures clients { IfOk result (λ it. string_bytes it.clients ≡ words.now.clients.now) }
+    ensures links { IfOk result (λ it. string_bytes it.links ≡ words.now.links.now) }
+{
     let peers = copies_of(alloc, &words.peers)?;
     let clients = match String::from_str(alloc, words.clients) {
         Ok(clients) => clients,
@@ -324,7 +365,12 @@ fn copies_of(alloc: Global, words: &[&str]) -> Result<Vec<String>, AllocError> {
 }
 
 // The store that is named, if one is.
-fn store_of(alloc: Global, words: StoreWords<'_>) -> Result<Option<StoreRequest>, AllocError> {
+fn store_of(alloc: Global, words: StoreWords<'_>) -> Result<Option<StoreRequest>, AllocError>
+    ensures none { words.entry.path ≡ None → IfOk result (λ store. store ≡ None) }
+    ensures path { (path : _) → words.entry.path ≡ Some path
+        → IfOk result (λ store. IsSomeAnd store (λ it. string_bytes it.path ≡ path.now)) }
+    ensures keeps { IfOk result (λ store. IfSome store (λ it. it.keeps ≡ words.entry.keeps)) }
+{
     match words.path {
         None => Ok(None),
         Some(path) => Ok(Some(StoreRequest {

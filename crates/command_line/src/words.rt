@@ -1,4 +1,7 @@
 //! The words of a command line, by clap.
+ghost use Rattle.std.specs.Prelude.{◌≡◌, IfOk, None, Some, codes, false, option_map, true};
+ghost use Rattle.clap.specs.Matches.{first_value, found_of, one_text};
+
 use clap::{Arg, ArgAction, ArgGroup, ArgMatches, Command, Error, value_parser};
 use serving_clients::{IDLE_SECONDS, PATIENCE_SECONDS, PLACES};
 use std::alloc::{AllocError, Global};
@@ -194,7 +197,14 @@ fn session_words<'a>(matches: &ArgMatches<'a>) -> SessionWords<'a> {
     }
 }
 
-fn store_words<'a>(matches: &ArgMatches<'a>) -> StoreWords<'a> {
+fn store_words<'a>(matches: &ArgMatches<'a>) -> StoreWords<'a>
+    ensures path { option_map (λ path. path.now) result.path
+        ≡ first_value (found_of matches.now) (codes "store") }
+    ensures keeps { one_text (found_of matches.now) (codes "keep") ≡ Some (codes "true")
+        → result.keeps ≡ true }
+    ensures drops { one_text (found_of matches.now) (codes "keep") ≡ Some (codes "false")
+        → result.keeps ≡ false }
+{
     StoreWords {
         path: matches.get_str("store"),
         keeps: matches.get_flag("keep"),
@@ -212,7 +222,12 @@ fn serve_words<'a>(alloc: Global, serve: &ArgMatches<'a>) -> Result<ServeWords<'
     })
 }
 
-fn site_words<'a>(alloc: Global, site: &ArgMatches<'a>) -> Result<SiteWords<'a>, AllocError> {
+fn site_words<'a>(alloc: Global, site: &ArgMatches<'a>) -> Result<SiteWords<'a>, AllocError>
+    ensures clients { (text : _) → first_value (found_of site.now) (codes "clients") ≡ Some text
+        → IfOk result (λ it. it.clients.now ≡ text) }
+    ensures links { (text : _) → first_value (found_of site.now) (codes "links") ≡ Some text
+        → IfOk result (λ it. it.links.now ≡ text) }
+{
     let queues = strings_of(alloc, site, "QUEUE")?;
     let peers = match strings_of(alloc, site, "peer") {
         Ok(peers) => peers,
@@ -356,8 +371,7 @@ fn push_serve_options<'a>(alloc: Global, args: &mut Vec<Arg<'a>>) -> Result<(), 
 // Adds the other options of `site`.
 fn push_site_options<'a>(alloc: Global, args: &mut Vec<Arg<'a>>) -> Result<(), AllocError> {
     let secret = "The file whose first line is the secret of the user";
-    let shared =
-        "The file whose first line is the secret that all sites share, at least 16 characters";
+    let shared = "The file whose first line is the secret that all sites share, 16 to 80 bytes";
     let store = "The file of the store, which is made if it is missing";
     let volatile = "Nothing is stored; the number of the site must never be used again";
     let peer = "Where another site accepts links; may be given 64 times";
