@@ -1,5 +1,5 @@
 ghost use Rattle.std.specs.Prelude.{◌≡◌, ◌≢◌, IfOk, IfSome, IsSomeAnd, None, Ok, OnErr, OnOk, Some};
-ghost use Rattle.std.specs.Prelude.{string_bytes, true};
+ghost use Rattle.std.specs.Prelude.{map, string_bytes, true};
 
 use crate::exit::Exit;
 use crate::secret_file::{SecretFault, read_secret};
@@ -194,6 +194,9 @@ fn site_request<R: Files + AllocGlobal>(rt: &R, words: &SiteWords<'_>) -> Result
         → string_bytes it.addresses.clients ≡ words.now.clients.now }
     ensures links { (it : _) → result ≡ Ok (Request.Site it)
         → string_bytes it.addresses.links ≡ words.now.links.now }
+    ensures peers { (it : _) → result ≡ Ok (Request.Site it)
+        → map string_bytes it.addresses.peers.items
+        ≡ map (λ peer. peer.now) words.now.peers.items }
     ensures volatile { (it : _) → result ≡ Ok (Request.Site it)
         → words.now.store.path ≡ None → it.store ≡ None }
     ensures path { (it : _) (path : _) → result ≡ Ok (Request.Site it)
@@ -314,6 +317,8 @@ fn places_of(
 ) -> Result<(Option<StoreRequest>, SiteAddresses), AllocError>
     ensures clients { IfOk result (λ it. string_bytes it.1.clients ≡ words.now.clients.now) }
     ensures links { IfOk result (λ it. string_bytes it.1.links ≡ words.now.links.now) }
+    ensures peers { IfOk result (λ it. map string_bytes it.1.peers.items
+        ≡ map (λ peer. peer.now) words.now.peers.items) }
     ensures none { words.now.store.path ≡ None → IfOk result (λ it. it.0 ≡ None) }
     ensures path { (path : _) → words.now.store.path ≡ Some path
         → IfOk result (λ it. IsSomeAnd it.0 (λ store. string_bytes store.path ≡ path.now)) }
@@ -332,6 +337,8 @@ fn places_of(
 fn addresses_of(alloc: Global, words: &SiteWords<'_>) -> Result<SiteAddresses, AllocError>
     ensures clients { IfOk result (λ it. string_bytes it.clients ≡ words.now.clients.now) }
     ensures links { IfOk result (λ it. string_bytes it.links ≡ words.now.links.now) }
+    ensures peers { IfOk result (λ it. map string_bytes it.peers.items
+        ≡ map (λ peer. peer.now) words.now.peers.items) }
 {
     let peers = copies_of(alloc, &words.peers)?;
     let clients = match String::from_str(alloc, words.clients) {
@@ -356,7 +363,10 @@ fn addresses_of(alloc: Global, words: &SiteWords<'_>) -> Result<SiteAddresses, A
     })
 }
 
-fn copies_of(alloc: Global, words: &[&str]) -> Result<Vec<String>, AllocError> {
+fn copies_of(alloc: Global, words: &[&str]) -> Result<Vec<String>, AllocError>
+    ensures { IfOk result (λ copies.
+        map string_bytes copies.items ≡ map (λ word. word.now) words.now) }
+{
     let mut copies = Vec::new(alloc);
     for word in words {
         copies.push(String::from_str(alloc, word)?)?;

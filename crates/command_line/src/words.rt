@@ -1,6 +1,6 @@
 //! The words of a command line, by clap.
-ghost use Rattle.std.specs.Prelude.{◌≡◌, IfOk, None, Some, codes, false, option_map, true};
-ghost use Rattle.clap.specs.Matches.{first_value, found_of, one_text};
+ghost use Rattle.std.specs.Prelude.{◌≡◌, IfOk, None, Some, codes, false, map, option_map, true};
+ghost use Rattle.clap.specs.Matches.{first_value, found_of, matched_of, one_text, raw_values};
 
 use clap::{Arg, ArgAction, ArgGroup, ArgMatches, Command, Error, value_parser};
 use serving_clients::{IDLE_SECONDS, PATIENCE_SECONDS, PLACES};
@@ -227,6 +227,8 @@ fn site_words<'a>(alloc: Global, site: &ArgMatches<'a>) -> Result<SiteWords<'a>,
         → IfOk result (λ it. it.clients.now ≡ text) }
     ensures links { (text : _) → first_value (found_of site.now) (codes "links") ≡ Some text
         → IfOk result (λ it. it.links.now ≡ text) }
+    ensures peers { (found : _) → matched_of (found_of site.now) (codes "peer") ≡ Some found
+        → IfOk result (λ it. map (λ peer. peer.now) it.peers.items ≡ raw_values found) }
 {
     let queues = strings_of(alloc, site, "QUEUE")?;
     let peers = match strings_of(alloc, site, "peer") {
@@ -253,7 +255,10 @@ fn strings_of<'a>(
     alloc: Global,
     matches: &ArgMatches<'a>,
     name: &str,
-) -> Result<Vec<&'a str>, AllocError> {
+) -> Result<Vec<&'a str>, AllocError>
+    ensures { (found : _) → matched_of (found_of matches.now) name.now ≡ Some found
+        → IfOk result (λ words. map (λ word. word.now) words.items ≡ raw_values found) }
+{
     let mut words = Vec::new(alloc);
     for word in matches.get_strs(name).unwrap_or(&[]) {
         words.push(*word)?;
