@@ -1,7 +1,8 @@
 """Runs the tests, and reports at the end what was run and how long each part took.
 
     ./test                     the whole gate, the wrong bodies, the program from the command line, the cases, sites under
-                               random workloads, the server, and tests with each allocation refused
+                               random workloads, the server, with stores too, linked sites, and tests with each
+                               allocation refused
     ./test CRATE..             what a change of these crates can break: layout, proofs, tests and stored runs of these and
                                of the crates that stand on them, over the work that earlier checks kept, and the
                                wrong bodies of these
@@ -26,7 +27,9 @@ import limit_tests
 import memory_tests
 import program_tests
 import server_tests
+import site_link_tests
 import site_tests
+import store_tests
 import wrong_bodies
 from crates import TOP, all_crates, folder, is_program, read, stored_words, with_those_above
 
@@ -95,6 +98,8 @@ def run_sites(parts):
 
 def run_server(parts):
     parts.run("the server, and clients of it", part_of(server_tests.run_all))
+    parts.run("servers with stores", part_of(store_tests.run_all))
+    parts.run("sites that are linked", part_of(site_link_tests.run_all))
 
 
 def run_without_memory(parts, crates):

@@ -1083,10 +1083,10 @@ def why_it_ends(server):
     return ""
 
 
-def run_refused(more):
+def run_refused(more, options=()):
     """Runs a server of two sites with one session, with this environment, until the session or the server has ended. Returns the server,
     and its status, none if it hasn't ended."""
-    server = Server(2, more=more)
+    server = Server(2, options=options, more=more)
     try:
         if not server.wait_until_it_listens():
             server.process.wait(PATIENCE)

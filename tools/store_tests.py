@@ -1,0 +1,672 @@
+"""Runs `queue_sites serve --store`: kills it under load and starts it again, reads its files by Python's sqlite3, gives it files that
+are no stores of its sites, fills its disk, and refuses its allocations.
+
+    python3 -B tools/store_tests.py [all] [NAME..]
+
+`all`: 100 kills and every allocation, where `./test` has 20 kills and some allocations. NAME: these tests alone."""
+import contextlib
+import os
+import random
+import re
+import shutil
+import signal
+import sqlite3
+import subprocess
+import sys
+import tempfile
+import threading
+import time
+
+from program_tests import NO_COMPILER, Failed, check, compiled_refusal, read
+from server_tests import (
+    BUILT, CAUGHT_UP, GREETING, PATIENCE, SECRET, SETTLED, TOLD, USER, Client, Server, free_ports, need, run_refused, shown, until_shown,
+)
+
+# How many members each owner has at most.
+MEMBERS = 6
+# The columns of a store's tables, as docs/store.md has them.
+COLUMNS = ("(position INTEGER PRIMARY KEY, pass INTEGER NOT NULL, kind INTEGER NOT NULL, "
+           "body BLOB NOT NULL, words TEXT NOT NULL) STRICT")
+ROW = "position, pass, kind, body, words"
+# The kinds of rows, and what the words of a row of each may be.
+BASE, COMMAND, TAKEN, CUT, WHOLE, START = range(1, 7)
+WORDS = {
+    BASE: re.compile(r"base of site \d+, started \d+ times"),
+    COMMAND: re.compile(r"Queue(Add|Remove|Penalty|Pause|MemberRingInUse) (sales|\*) SIP/\S+"),
+    TAKEN: re.compile(r"take, \d+ bytes"),
+    CUT: re.compile(r"cut, \d+ bytes"),
+    WHOLE: re.compile(r"whole, \d+ bytes"),
+    START: re.compile(r"start"),
+}
+# The user and group that may write nothing.
+NOBODY = 65_534
+# Past how many rows since its base a store gets a new one.
+MOST_ROWS = 10_000
+# How many of the allocations of a run `./test` refuses.
+SOME_ALLOCATIONS = 30
+
+
+def members(report):
+    """The penalty of each member that a report shows."""
+    found = re.findall(rb"Location: (\S+)\r\nStateInterface: .*\r\nMembership: dynamic\r\nPenalty: (\d+)\r\n", report)
+    return {interface.decode(): int(penalty) for interface, penalty in found}
+
+
+class Owner:
+    """A client of a site, and the members that it alone changes: those that are there by the replies that it got, and the change that
+    it asked for without a reply."""
+
+    def __init__(self, number, site):
+        self.number, self.site, self.known, self.asked, self.done = number, site, {}, None, 0
+
+    def owns(self, interface):
+        return interface.startswith(f"SIP/{self.number}-")
+
+    def ask(self, client, lot):
+        """Asks for a random change, and notes it as done once it is answered."""
+        interface, penalty = f"SIP/{self.number}-{lot.randrange(MEMBERS)}", lot.randrange(1_000)
+        if interface not in self.known:
+            action, fields = "QueueAdd", {"Penalty": penalty}
+        elif lot.random() < 0.5:
+            action, fields, penalty = "QueueRemove", {}, None
+        else:
+            action, fields = "QueuePenalty", {"Penalty": penalty}
+        self.asked = interface, penalty
+        client.succeed(action, Queue="sales", Interface=interface, **fields)
+        self.known, self.asked, self.done = self.after(), None, self.done + 1
+
+    def after(self):
+        """The members once the change that it asked for is done."""
+        interface, penalty = self.asked
+        others = {it: own for it, own in self.known.items() if it != interface}
+        return others if penalty is None else {**others, interface: penalty}
+
+    def work(self, server, site, seed, working):
+        """Asks until it is to end, or the server is killed, which is said before it is done."""
+        lot = random.Random(seed)
+        try:
+            with server.logged_in(site) as client:
+                while not working.is_done.is_set():
+                    self.ask(client, lot)
+        except (OSError, Failed):
+            if not working.is_over.is_set():
+                raise
+
+    def check(self, found):
+        """Needs the members that were there by the replies, or those after the change that got none. Then these are there."""
+        own = {interface: penalty for interface, penalty in found.items() if self.owns(interface)}
+        right = [self.known] if self.asked is None else [self.known, self.after()]
+        need(own in right, f"client {self.number} has {own!r}, by its replies {self.known!r}, and asked for {self.asked!r}")
+        self.known, self.asked = own, None
+
+
+class Working:
+    """Threads of owners at work, whose faults are not lost: at the server and its site that `place_of` names. `is_done` ends them, and behind
+    `is_over` the server may be killed."""
+
+    def __init__(self, owners, place_of, seed):
+        self.is_done, self.is_over, self.faults = threading.Event(), threading.Event(), []
+        self.threads = [threading.Thread(target=self.run, args=(it, *place_of(it), seed + it.number)) for it in owners]
+        for it in self.threads:
+            it.start()
+
+    def run(self, owner, server, site, seed):
+        try:
+            owner.work(server, site, seed, self)
+        except Exception as why:  # reported by the thread that waits
+            self.faults.append(why)
+
+    def wait(self):
+        for it in self.threads:
+            it.join()
+        if self.faults:
+            raise self.faults[0]
+
+
+def check_shown(server, owners):
+    """Needs that each site shows what its own clients did, and that soon all sites show the same: what is there is what was answered, or
+    asked for last, and nothing else."""
+    for site in range(server.sites):
+        found = members(shown(server, site))
+        for it in owners:
+            if it.site == site:
+                it.check(found)
+    wanted = {interface: penalty for it in owners for interface, penalty in it.known.items()}
+    ends = time.monotonic() + SETTLED
+    while any(members(shown(server, site)) != wanted for site in range(server.sites)):
+        need(time.monotonic() < ends, f"the sites don't show the same: {[members(shown(server, it)) for it in range(server.sites)]!r}, not {wanted!r}")
+    need(len({shown(server, site) for site in range(server.sites)}) == 1, "the sites show the same members otherwise")
+
+
+def stored(folder, sites=2, places=4, keeps=False, more=None):
+    """A server whose sites have stores."""
+    return Server(sites, options=["--store", folder, "--sessions", str(places), *(["--keep"] if keeps else [])], more=more)
+
+
+def files_of(folder, site):
+    """The files of a site's store, with what they have."""
+    return {it: read(f"{folder}/{it}") for it in os.listdir(folder) if it.startswith(f"site-{site}.db")}
+
+
+@contextlib.contextmanager
+def opened(folder, site):
+    """A site's store as Python's sqlite3 opens it, of a copy of its files. It must be sound."""
+    with tempfile.TemporaryDirectory() as room:
+        for name, content in files_of(folder, site).items():
+            with open(f"{room}/{name}", "wb") as file:
+                file.write(content)
+        with contextlib.closing(sqlite3.connect(f"{room}/site-{site}.db")) as store:
+            sound = store.execute("PRAGMA integrity_check").fetchall()
+            need(sound == [("ok",)], f"sqlite3 says of a store: {sound!r}")
+            yield store
+
+
+def rows_of(folder, site, table="step"):
+    """The rows of a table of a site's store."""
+    with opened(folder, site) as store:
+        return store.execute(f"SELECT {ROW} FROM {table} ORDER BY position").fetchall()
+
+
+def tables_of(folder, site):
+    """The tables of a site's store."""
+    with opened(folder, site) as store:
+        return {name: text for name, text in store.execute("SELECT name, sql FROM sqlite_master")}
+
+
+def check_rows(rows):
+    """Needs rows at positions one after the other, each with words of its kind."""
+    need([it[0] for it in rows] == [*range(rows[0][0], rows[0][0] + len(rows))], "the rows don't stand one after the other")
+    for _, _, kind, _, words in rows:
+        need(WORDS[kind].fullmatch(words), f"the words of a row of kind {kind} are {words!r}")
+
+
+def check_words(folder, sites, starts):
+    """Needs that a base stands first in each store, that the words of all rows read as they should, and that the starts are counted."""
+    for site in range(sites):
+        rows = rows_of(folder, site)
+        check_rows(rows)
+        need([it[2] == BASE for it in rows] == [True, *[False] * (len(rows) - 1)], "a store doesn't have one base, in front")
+        counted = int(re.fullmatch(rf"base of site {site}, started (\d+) times", rows[0][4])[1]) + sum(it[2] == START for it in rows)
+        need(counted == starts, f"a site was started {starts} times, and its store counts {counted}")
+
+
+def new_lines(folder, sites):
+    """What a server logs that makes the stores of its sites."""
+    return "".join(f"queue_sites: site {site}: new store {folder}/site-{site}.db\n" for site in range(sites)).encode()
+
+
+def stop_new(server, folder):
+    """Ends a server that has made the stores of its sites, and has logged nothing else."""
+    told = new_lines(folder, server.sites)
+    server.read_log(lambda logged: len(logged) >= len(told))
+    found = server.stop()
+    need(found == told, f"a server whose stores are new logs {found!r}")
+
+
+def greets_with_stores():
+    """With stores a server greets, and answers as without, and what it has answered is there when it starts again."""
+    with tempfile.TemporaryDirectory() as folder:
+        with stored(folder, 8) as server:
+            for site in range(8):
+                with server.client(site) as it:
+                    need(it.greeting == f"{GREETING}\r\n".encode(), f"the greeting is {it.greeting!r}")
+            with server.logged_in(7) as it:
+                it.succeed("QueueAdd", Queue="sales", Interface="SIP/1")
+                it.leave()
+            until_shown(server, 0, b"Location: SIP/1\r\n")
+            server.rests()
+            stop_new(server, folder)
+        with stored(folder, 8) as server:
+            for site in range(8):
+                until_shown(server, site, b"Location: SIP/1\r\n")
+            server.stop_silent()
+        check_words(folder, 8, 2)
+    return "eight sites with stores"
+
+
+def kills(times=20, clients=32, sites=2):
+    """A server is killed at random moments while clients change members, and starts again each time: what was answered is there, nothing
+    else is but what was asked for, and all sites show the same. Where a number of a change was used again a site would refuse what another
+    site has of it."""
+    lot, owners = random.Random(1), [Owner(number, number % sites) for number in range(clients)]
+    with tempfile.TemporaryDirectory() as folder:
+        for turn in range(times):
+            with stored(folder, sites, clients // sites) as server:
+                check_shown(server, owners)
+                working = Working(owners, lambda it: (server, it.site), turn * clients)
+                time.sleep(lot.uniform(0.05, 0.5))
+                working.is_over.set()
+                told = server.stop(signal.SIGKILL)
+                working.wait()
+                need(told == (b"" if turn else new_lines(folder, sites)), f"a server with stores logged {told!r}")
+        with stored(folder, sites) as server:
+            check_shown(server, owners)
+            server.stop(signal.SIGKILL)
+        check_words(folder, sites, times + 1)
+    done = sum(it.done for it in owners)
+    need(done > times * clients // 2, f"only {done} changes were answered")
+    return f"{times} kills among {done:,} changes by {clients} clients"
+
+
+def opened_again(times=30):
+    """A store that is opened again and again keeps its members, and counts its starts."""
+    with tempfile.TemporaryDirectory() as folder:
+        for turn in range(times):
+            with stored(folder, 1) as server:
+                with server.logged_in() as client:
+                    client.succeed("QueueAdd", Queue="sales", Interface=f"SIP/{turn}")
+                    need(members(client.ask("QueueStatus")) == {f"SIP/{it}": 0 for it in range(turn + 1)}, "a store that is opened again has other members")
+                server.stop()
+        check_words(folder, 1, times)
+    return f"a store that is opened {times} times"
+
+
+def members_of(rows):
+    """The members to which rows lead in which one site was asked for adds and removals, and no more."""
+    found = set()
+    for words in (it[4].split() for it in rows if it[2] == COMMAND):
+        if words[0] == "QueueAdd":
+            need(words[2] not in found, f"{words[2]} was added twice")
+            found.add(words[2])
+        if words[0] == "QueueRemove":
+            need(words[2] in found, f"{words[2]} was removed and wasn't there")
+            found.remove(words[2])
+    return found
+
+
+def change_until(server, owners, changes):
+    """Clients of site 0 change members until so many changes are answered. Then the server is killed."""
+    working, started = Working(owners, lambda it: (server, 0), 0), time.monotonic()
+    while sum(it.done for it in owners) < changes:
+        need(time.monotonic() - started < 240 and not working.faults, f"{sum(it.done for it in owners)} changes are answered; {working.faults[:1]}")
+        time.sleep(0.02)
+    # The base is put within 50 ms of the row that makes it due.
+    time.sleep(0.3)
+    working.is_over.set()
+    server.stop(signal.SIGKILL)
+    working.wait()
+
+
+def new_bases(keeps=False, clients=32, more=1_000):
+    """Past 10,000 rows a site's store has a new base, and starts from it. A store that keeps rows has all of them then, in a second table: they
+    stand one after the other, and lead to the members that are shown."""
+    owners, options = [Owner(number, 0) for number in range(clients)], {"keeps": keeps}
+    with tempfile.TemporaryDirectory() as folder:
+        with stored(folder, 1, clients, **options) as server:
+            change_until(server, owners, MOST_ROWS + more)
+        done, rows, tables = sum(it.done for it in owners), rows_of(folder, 0), tables_of(folder, 0)
+        need(len(rows) < MOST_ROWS, f"after {done} changes the store has {len(rows)} rows")
+        need(rows[0][0] > MOST_ROWS and rows[0][4] == "base of site 0, started 1 times", f"the new base is {rows[0]!r}")
+        wanted = {name: f"CREATE TABLE {name} {COLUMNS}" for name in ("step", *["kept"] * keeps)}
+        need(tables == wanted, f"the store has the tables {tables!r}")
+        kept = rows_of(folder, 0, "kept") if keeps else []
+        if keeps:
+            check_rows(kept + rows)
+            need(kept[0][0] == 0 and kept[0][2] == BASE, f"the first kept row is {kept[0]!r}")
+            commands = sum(it[2] == COMMAND for it in kept + rows)
+            need(done <= commands <= done + clients, f"{done} changes were answered, and {commands} are kept")
+        else:
+            check_rows(rows)
+        # A store that has begun to keep rows goes on, also where the word is left out.
+        with stored(folder, 1) as server:
+            check_shown(server, owners)
+            server.stop()
+        if keeps:
+            all_rows = rows_of(folder, 0, "kept") + rows_of(folder, 0)
+            need(all_rows[:len(kept)] == kept, "kept rows have changed")
+            need(members_of(all_rows) == {interface for it in owners for interface in it.known}, "the rows lead to other members")
+    return f"a new base: {len(rows):,} rows after {done:,} changes" + (f", {len(kept):,} rows kept" if keeps else "")
+
+
+def kept_rows():
+    """A store that keeps rows."""
+    return new_bases(True)
+
+
+def told_of(folder, site, *faults):
+    """What a server says that can't use the store of a site."""
+    return [f"queue_sites: store {folder}/site-{site}.db: {it}\n".encode() for it in faults]
+
+
+def refuses(folder, site, *faults, sites=1, queues=("sales",), program=BUILT, **how):
+    """A server doesn't start with the files in this folder, says why, and changes nothing in them. Why may be one of these."""
+    before = files_of(folder, site) if os.path.isdir(folder) else {}
+    words = ["serve", "--store", folder, str(sites), str(free_ports(sites)), USER, SECRET, *queues]
+    how = {"preexec_fn": how.get("before"), "capture_output": True, "timeout": PATIENCE, "check": False}
+    ran = subprocess.run([program, *words], **how)
+    need(ran.returncode == 1 and ran.stdout == b"" and ran.stderr in told_of(folder, site, *faults),
+         f"where a server should say {faults!r} of a store its status is {ran.returncode}, and it says {ran.stdout + ran.stderr!r}")
+    after = files_of(folder, site) if os.path.isdir(folder) else {}
+    changed = [it for it in {*before, *after} if after.get(it, b"") != before.get(it, b"")]
+    need(not changed, f"a server that says {ran.stderr!r} has changed {changed!r}")
+    return ran.stderr
+
+
+def made(room, members_of=3):
+    """A folder with the stores of two sites, each of which has added some members. The first is site 0's alone."""
+    folder = f"{room}/stores"
+    os.mkdir(folder)
+    with stored(folder) as server:
+        for site in range(2):
+            with server.logged_in(site) as client:
+                for number in range(members_of):
+                    client.succeed("QueueAdd", Queue="sales", Interface=f"SIP/{site}-{number}")
+        until_shown(server, 0, b"ListItems: %d\r\n" % (2 * members_of + 1))
+        until_shown(server, 1, b"ListItems: %d\r\n" % (2 * members_of + 1))
+        stop_new(server, folder)
+    return folder
+
+
+def written(folder, rows):
+    """A file of site 0 with these rows, which sqlite3 has written."""
+    os.mkdir(folder)
+    with contextlib.closing(sqlite3.connect(f"{folder}/site-0.db")) as store:
+        store.execute(f"CREATE TABLE step {COLUMNS}")
+        store.executemany("INSERT INTO step VALUES (?, ?, ?, ?, ?)", rows)
+        store.commit()
+    return folder
+
+
+def put(folder, name, content):
+    """A folder with one file."""
+    os.makedirs(folder, exist_ok=True)
+    with open(f"{folder}/{name}", "wb") as file:
+        file.write(content)
+    return folder
+
+
+def copied(folder, room, name):
+    """A copy of the stores in a folder."""
+    return shutil.copytree(folder, f"{room}/{name}")
+
+
+def other_files():
+    """Files that aren't those of the server's sites, or aren't whole, are refused, each with its own text, and nothing is changed."""
+    with tempfile.TemporaryDirectory() as room:
+        folder = made(room)
+        before = [rows_of(folder, site) for site in range(2)]
+        refuses(f"{room}/none", 0, "cannot open")
+        refuses(folder, 0, "base: another list of queues", queues=("sales", "support"))
+        refuses(folder, 0, "base: another list of queues", queues=("Sales",))
+        need([rows_of(folder, site) for site in range(2)] == before, "a store that was refused has other rows")
+        swapped = f"{room}/swapped"
+        for name, content in files_of(folder, 1).items():
+            put(swapped, name.replace("site-1", "site-0"), content)
+        refuses(swapped, 0, "base: another site")
+        refuses(put(f"{room}/text", "site-0.db", b"This is no store.\n" * 1_000), 0, "no store")
+        refuses(put(f"{room}/empty", "site-0.db", b""), 0, "no store")
+        # Without its log a file has not even a table, and a log without its file is no store either: neither is made anew.
+        for name, content in files_of(folder, 0).items():
+            half = put(f"{room}/only-{name}", name, content)
+            refuses(half, 0, "no store")
+            need(sorted(it for it, content in files_of(half, 0).items() if content) == [name], f"a store of which {name} alone is left was made anew")
+        table = f"{room}/table"
+        os.mkdir(table)
+        with contextlib.closing(sqlite3.connect(f"{table}/site-0.db")) as notes:
+            notes.execute("CREATE TABLE note (id INTEGER PRIMARY KEY, title TEXT)")
+        refuses(table, 0, "no store")
+        base = before[0][0]
+        refuses(written(f"{room}/version", [(*base[:3], b"\x02" + base[3][1:], base[4])]), 0, "base: another version")
+        # A row says that SIP/1 was removed, which isn't there.
+        removed = bytes.fromhex("02 05 73616c6573 05 5349502f31 00")
+        refuses(written(f"{room}/differs", [base, (base[0] + 1, 1, COMMAND, removed, "")]), 0, f"row {base[0] + 1} is damaged")
+        refuses(written(f"{room}/gap", [base, (base[0] + 2, 0, START, b"", "start")]), 0, "a row is missing")
+        # Of a file that sqlite3 has written the server goes on.
+        with stored(written(f"{room}/foreign", before[0]), 1) as server:
+            need(b"ListItems: 7\r\n" in shown(server), "a store that sqlite3 has written shows other members")
+            server.stop_silent()
+    return "files of other sites, queues and programs, of another version, with other rows"
+
+
+def files_in_use():
+    """A store that another process has open is refused, a server or sqlite3; and sqlite3 can't write to one that a server has open."""
+    with tempfile.TemporaryDirectory() as room:
+        folder = made(room)
+        with stored(folder) as server:
+            need(b"ListItems: 7\r\n" in shown(server, 1), "a store shows other members than before")
+            words = ["serve", "--store", folder, "1", str(free_ports(1)), USER, SECRET, "sales"]
+            check(BUILT, words, 1, told=told_of(folder, 0, "in use")[0])
+            with contextlib.closing(sqlite3.connect(f"{folder}/site-0.db", timeout=0)) as other:
+                try:
+                    other.execute("DELETE FROM step")
+                    need(False, "sqlite3 writes to a store that a server has open")
+                except sqlite3.OperationalError as why:
+                    need("locked" in str(why), f"of a store that a server has open sqlite3 says {why}")
+            with server.logged_in() as client:
+                client.succeed("QueueAdd", Queue="sales", Interface="SIP/more")
+            server.stop_silent()
+        holder = "import sqlite3, sys; it = sqlite3.connect(sys.argv[1]); it.execute('BEGIN IMMEDIATE'); print(flush=True); input()"
+        with subprocess.Popen([sys.executable, "-c", holder, f"{folder}/site-0.db"], stdin=subprocess.PIPE, stdout=subprocess.PIPE) as process:
+            process.stdout.readline()
+            check(BUILT, words, 1, told=told_of(folder, 0, "in use")[0])
+            process.communicate(b"\n")
+        with stored(folder) as server:
+            need(b"ListItems: 8\r\n" in shown(server, 1), "a store shows other members behind refused starts")
+            server.stop_silent()
+    return "files in use"
+
+
+def damaged_files(flips=200):
+    """A store whose file was cut, or in which a bit was flipped, is refused, and isn't changed."""
+    lot, said = random.Random(3), {}
+    with tempfile.TemporaryDirectory() as room:
+        # Many changes, so that the log was copied into the file.
+        path = f"{made(room, 500)}/site-0.db"
+        whole = read(path)
+        need(len(whole) > 4_096, f"the file of a store has {len(whole)} bytes")
+        for number in range(flips):
+            # The first page has the header: each tenth flip is there.
+            at = lot.randrange(len(whole) if number % 10 else 100)
+            damaged = whole[:at] + bytes([whole[at] ^ 1 << lot.randrange(8)]) + whole[at + 1:]
+            line = refuses(put(f"{room}/flipped-{number}", "site-0.db", damaged), 0, "damaged file", "no store")
+            said[line.rpartition(b": ")[2].strip().decode()] = said.get(line.rpartition(b": ")[2].strip().decode(), 0) + 1
+        for length in (len(whole) - 4_096, len(whole) - 100, 4_096, 4_000, 100, 16, 1):
+            refuses(put(f"{room}/cut-{length}", "site-0.db", whole[:length]), 0, "damaged file", "no store")
+    return f"{flips} flipped bits ({', '.join(f'{count} {text}' for text, count in sorted(said.items()))}), and files that are cut"
+
+
+def damaged_logs(flips=10, adds=30):
+    """Of a log in which a bit was flipped, or that was cut, a site has the changes before that, as SQLite has them, or it is refused."""
+    lot = random.Random(4)
+    with tempfile.TemporaryDirectory() as room:
+        folder = f"{room}/stores"
+        os.mkdir(folder)
+        with stored(folder, 1) as server:
+            with server.logged_in() as client:
+                for number in range(adds):
+                    client.succeed("QueueAdd", Queue="sales", Interface=f"SIP/{number}")
+            stop_new(server, folder)
+        log, counts = read(f"{folder}/site-0.db-wal"), []
+        for number in range(flips):
+            damaged, at = copied(folder, room, f"log-{number}"), lot.randrange(len(log))
+            put(damaged, "site-0.db-wal", log[:at] + bytes([log[at] ^ 1 << lot.randrange(8)]) + log[at + 1:] if number % 2 else log[:at])
+            server = stored(damaged, 1)
+            if server.wait_until_it_listens():
+                found = members(shown(server))
+                server.stop_silent()
+                need(found == {f"SIP/{it}": 0 for it in range(len(found))}, f"of a damaged log a site has {found!r}")
+                counts.append(len(found))
+            else:
+                told = server.stop()
+                need(server.process.returncode == 1 and told in told_of(damaged, 0, "damaged file", "no store"), f"a damaged log: {told!r}")
+    return f"{flips} damaged logs, of which {len(counts)} start with {min(counts, default=0)} to {max(counts, default=0)} of {adds} changes"
+
+
+def rolled_back(members_of=3):
+    """A site whose store was lost, or is an older copy, answers no client: all sites end, with status 1 and a line that says why."""
+    with tempfile.TemporaryDirectory() as room:
+        folder = made(room, members_of)
+        older, lost = copied(folder, room, "older"), copied(folder, room, "lost")
+        with stored(folder) as server:
+            with server.logged_in() as client:
+                client.succeed("QueueAdd", Queue="sales", Interface="SIP/later")
+            until_shown(server, 1, b"Location: SIP/later\r\n")
+            server.stop_silent()
+        for it in (older, lost):
+            for site in range(2):
+                if site == 1 or it == lost:
+                    for name in files_of(it, site):
+                        os.remove(f"{it}/{name}")
+            for name, content in files_of(folder, 1).items():
+                put(it, name, content)
+        login = f"Action: Login\r\nUsername: {USER}\r\nSecret: {SECRET}\r\n\r\n"
+        asked = f"{login}Action: QueueAdd\r\nQueue: sales\r\nInterface: SIP/new\r\n\r\n".encode()
+        for it in (older, lost):
+            with stored(it) as server:
+                answers = b""
+                with contextlib.suppress(OSError), Client(server.port) as client:
+                    client.send(asked)
+                    answers = client.rest()
+                need(b"Added interface" not in answers, f"a site that was rolled back answers {answers!r}")
+                need(server.process.wait(PATIENCE) == 1, f"a server with a site that was rolled back ends with status {server.process.returncode}")
+                told = server.stop()
+                line = b"queue_sites: site 0: ends: a frame of site 1: not this site's own\n"
+                need(told.count(line) == 1, f"a server with a site that was rolled back logs {told!r}")
+    return "sites that were rolled back: an older copy, and a store that is lost"
+
+
+def files_that_may_not_be_written():
+    """A store that the server's user may only read is refused."""
+    with tempfile.TemporaryDirectory() as room:
+        folder, program = made(room), f"{room}/queue_sites"
+        shutil.copy(BUILT, program)
+        os.chmod(room, 0o755)
+        os.chmod(program, 0o755)
+        for it in os.listdir(folder):
+            os.chmod(f"{folder}/{it}", 0o444)
+        os.chmod(folder, 0o555)
+        how = {"before": lambda: os.setuid(NOBODY)} if os.getuid() == 0 else {}
+        refuses(folder, 0, "cannot open", program=program, **how)
+        os.chmod(folder, 0o755)
+    return "files that may not be written"
+
+
+@contextlib.contextmanager
+def small_disk(room, size):
+    """A file system in memory of this size. Nothing if this process can't have one."""
+    disk = f"{room}/disk-{size}"
+    os.mkdir(disk)
+    mount = ["mount", "-t", "tmpfs", "-o", f"size={size}", "tmpfs", disk]
+    try:
+        can = subprocess.run(mount, capture_output=True, check=False).returncode == 0
+    except FileNotFoundError:
+        can = False
+    try:
+        yield disk if can else None
+    finally:
+        if can:
+            subprocess.run(["umount", disk], check=True)
+
+
+def full_disks(clients=4):
+    """A server whose disk is full says so and ends, with status 1: when it starts, or while clients change members. What it has answered is
+    in its files."""
+    owners = [Owner(number, 0) for number in range(clients)]
+    with tempfile.TemporaryDirectory() as room:
+        with small_disk(room, "4k") as disk:
+            if not disk:
+                return "no full disk, since this process can't mount a tmpfs"
+            for _ in range(2):
+                refuses(disk, 0, "database or disk is full")
+                need(os.listdir(disk) == [], f"a store that could not be made leaves {os.listdir(disk)!r}")
+        with small_disk(room, "1m") as disk:
+            with stored(disk, 1) as server:
+                working = Working(owners, lambda it: (server, 0), 0)
+                working.is_over.set()
+                working.wait()
+                need(server.process.wait(PATIENCE) == 1, f"a server whose disk is full ends with status {server.process.returncode}")
+                told = server.stop()
+                lines = [it for it in told.splitlines(keepends=True) if b": session ended: desk down; " not in it]
+                wanted = new_lines(disk, 1) + b"queue_sites: site 0: store failed: disk full\n"
+                need(b"".join(lines) == wanted, f"a server whose disk is full logs {told!r}")
+            shutil.copytree(disk, f"{room}/larger")
+        need(sum(it.done for it in owners) > 20, "the disk was full at once")
+        with stored(f"{room}/larger", 1) as server:
+            check_shown(server, owners)
+    return f"a disk that was full after {sum(it.done for it in owners)} changes"
+
+
+def some_of(allocations, number):
+    """Some of the numbers of a run's allocations, the first and the last among them. All, where `number` is nothing."""
+    if number is None or allocations <= number:
+        return [*range(1, allocations + 1)]
+    return sorted({1 + place * (allocations - 1) // (number - 1) for place in range(number)})
+
+
+def starts_again(folder, number, is_served):
+    """A server one of whose allocations was refused starts again with the files that it leaves, and has what it has answered."""
+    with stored(folder) as server:
+        for site in range(2) if is_served else []:
+            until_shown(server, site, b"Location: SIP/1\r\n", CAUGHT_UP)
+        need(server.process.poll() is None, f"a server doesn't go on over the files that it left where allocation {number} was refused")
+        shown(server)
+        server.stop()
+
+
+def refused_allocations(number=SOME_ALLOCATIONS):
+    """With each allocation of a run with stores refused in turn, or some, the server ends with status 1 and a text before it serves a client, or
+    with a line that says that its store has failed, or serves on. It starts again with the files that it leaves, and has what it has
+    answered."""
+    with tempfile.TemporaryDirectory() as room:
+        library = compiled_refusal(room)
+        if library is None:
+            return NO_COMPILER
+        counted, ended, failed = f"{room}/allocations", 0, 0
+
+        def run(number):
+            folder = f"{room}/stores-{number}"
+            os.mkdir(folder)
+            more = {"LD_PRELOAD": library, "REFUSED_ALLOCATION": str(number), "ALLOCATIONS_FILE": counted}
+            server, status = run_refused(more, ["--store", folder])
+            told = server.stop()
+            return folder, server, status, told
+
+        run(0)
+        allocations = int(read(counted))
+        tried = some_of(allocations, number)
+        for at in tried:
+            folder, server, status, told = run(at)
+            texts = [b"queue_sites: out of memory\n", b"queue_sites: no thread\n", *told_of(folder, 0, "out of memory"), *told_of(folder, 1, "out of memory")]
+            lines = [it for it in told.splitlines(keepends=True) if it not in new_lines(folder, 2).splitlines(keepends=True)]
+            if status is None:
+                need(all(TOLD.fullmatch(it.strip()) for it in lines), f"where allocation {at} is refused the server logs {told!r}")
+            elif any(b": store failed: " in it for it in lines):
+                failed += 1
+                need(status == 1 and sum(b": store failed: " in it for it in lines) == 1, f"where allocation {at} is refused the server logs {told!r}")
+            else:
+                ended += 1
+                need(status == 1 and len(lines) == 1 and lines[0] in texts, f"where allocation {at} is refused the status is {status}, and it says {told!r}")
+            starts_again(folder, at, status is None)
+            shutil.rmtree(folder)
+    which = "each" if len(tried) == allocations else f"{len(tried)}"
+    return f"{which} of the {allocations} allocations of a run with stores refused: {ended} ended it, {failed} failed its store, the others let it serve on"
+
+
+TESTS = [greets_with_stores, kills, opened_again, new_bases, kept_rows, other_files, files_in_use, damaged_files, damaged_logs, rolled_back,
+         files_that_may_not_be_written, full_disks, refused_allocations]
+# What `all` changes.
+LONGER = {kills: lambda: kills(100), refused_allocations: lambda: refused_allocations(None)}
+
+
+def run_all(tests=None, longer=False):
+    """Runs all tests, or these. Returns lines that report what was run."""
+    return [(LONGER.get(it, it) if longer else it)() for it in tests or TESTS]
+
+
+def main(words, tests, run):
+    """Runs the tests that words name, each with its time."""
+    named = {it.__name__: it for it in tests}
+    names = [it for it in words if it != "all"]
+    if any(it not in named for it in names):
+        sys.exit(f"test: the tests are {' '.join(named)}")
+    for it in names or named:
+        started = time.monotonic()
+        try:
+            line = run([named[it]], "all" in words)[0]
+        except Failed as why:
+            sys.exit(f"test: {it}: {why}")
+        print(f"{time.monotonic() - started:6.1f} s  {it}: {line}", flush=True)
+
+
+if __name__ == "__main__":
+    main(sys.argv[1:], TESTS, run_all)
