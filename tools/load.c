@@ -1,13 +1,15 @@
 /* Measures how fast a server answers: clients in threads, each of which sends one request, waits for the whole reply, and only then sends
    the next.
 
-       load manager PORT SITES CLIENTS SECONDS penalty|status USER SECRET
+       load manager PORT SITES CLIENTS SECONDS add|penalty|status USER SECRET
        load redis PORT 1 CLIENTS SECONDS hset
+       load shown PORT OTHER SECONDS USER SECRET
 
-   Client i connects to 127.0.0.1 at PORT + i % SITES. `penalty` sets the penalty of SIP/0, `status` asks for the whole report, `hset` sets a
-   field of a hash. A client that isn't greeted until the time is up asks nothing. It prints one line: how many requests were answered, how
-   many bytes of replies came, and within how many nanoseconds half of the replies came, and 99 of 100. Status 1: a reply is wrong, or the
-   server is gone. */
+   Client i connects to 127.0.0.1 at PORT + i % SITES. `add` adds a member of its own and removes it in turn, `penalty` sets the penalty of
+   SIP/0, `status` asks for the whole report, `hset` sets a field of a hash. A client that isn't greeted until the time is up asks nothing.
+   `shown` has one client of each of two sites: the first adds a member, the second asks for reports from the reply on until it is shown, and
+   the first removes it. It prints one line: how many requests were answered (or members were shown), how many bytes of replies came, and
+   within how many nanoseconds half of the replies came, 99 of 100, and all. Status 1: a reply is wrong, or the server is gone. */
 #define _GNU_SOURCE
 #include <arpa/inet.h>
 #include <errno.h>
@@ -24,12 +26,12 @@
 
 enum { MOST_CLIENTS = 1024, ROOM = 1 << 23, REQUEST = 512 };
 
-enum kind { PENALTY, STATUS, HSET };
+enum kind { ADD, PENALTY, STATUS, HSET, SHOWN };
 
 /* What every client does. */
 static struct load {
     enum kind kind;
-    int port, sites, clients;
+    int port, other, sites, clients;
     uint64_t begins, ends;
     const char *user, *secret;
 } load;
@@ -67,7 +69,8 @@ static void *allocated(void *old, size_t bytes) {
 }
 
 static void connect_client(struct client *client) {
-    struct sockaddr_in address = {.sin_family = AF_INET, .sin_port = htons(load.port + client->number % load.sites)};
+    int port = load.kind == SHOWN && client->number ? load.other : load.port + client->number % load.sites;
+    struct sockaddr_in address = {.sin_family = AF_INET, .sin_port = htons(port)};
     int yes = 1;
     address.sin_addr.s_addr = htonl(INADDR_LOOPBACK);
     client->stream = socket(AF_INET, SOCK_STREAM, 0);
@@ -136,7 +139,10 @@ static void note(struct client *client, uint64_t took) {
 /* Writes the next request. Its length. */
 static int next_request(const struct client *client, char *request) {
     int value = 100 + client->count % 900;
+    const char *action = client->count % 2 ? "QueueRemove" : "QueueAdd";
     switch (load.kind) {
+    case ADD:
+        return snprintf(request, REQUEST, "Action: %s\r\nQueue: sales\r\nInterface: SIP/own-%d\r\n\r\n", action, client->number);
     case PENALTY:
         return snprintf(request, REQUEST, "Action: QueuePenalty\r\nInterface: SIP/0\r\nPenalty: %d\r\n\r\n", value);
     case STATUS:
@@ -167,6 +173,37 @@ static void *run(void *given) {
     return NULL;
 }
 
+/* Sends a request and reads its reply, which must be a success. */
+static void ask(struct client *client, const char *request, int report) {
+    send_request(client, request, strlen(request));
+    read_reply(client, "\r\n\r\n", report);
+    must_begin(client, "Response: Success\r\n");
+}
+
+/* Adds a member by one client again and again, and asks by the other until it is shown. Notes how long that took from the reply on. */
+static void run_shown(struct client *clients) {
+    struct client *one = clients, *other = clients + 1;
+    char request[REQUEST], location[64];
+    for (int i = 0; i < 2; i++) {
+        clients[i].reply = allocated(NULL, ROOM);
+        connect_client(&clients[i]);
+        if (!begin(&clients[i])) return;
+    }
+    for (int number = 0; now() < load.ends; number++) {
+        snprintf(request, sizeof request, "Action: QueueAdd\r\nQueue: sales\r\nInterface: SIP/shown-%d\r\n\r\n", number);
+        snprintf(location, sizeof location, "Location: SIP/shown-%d\r\n", number);
+        ask(one, request, 0);
+        uint64_t began = now();
+        do {
+            ask(other, "Action: QueueStatus\r\n\r\n", 1);
+        } while (now() < load.ends && !memmem(other->reply, other->length, location, strlen(location)));
+        if (memmem(other->reply, other->length, location, strlen(location))) note(other, now() - began);
+        snprintf(request, sizeof request, "Action: QueueRemove\r\nQueue: sales\r\nInterface: SIP/shown-%d\r\n\r\n", number);
+        ask(one, request, 0);
+        usleep(2000); /* both sites are at rest again */
+    }
+}
+
 static int compare(const void *one, const void *other) {
     uint32_t a = *(const uint32_t *)one, b = *(const uint32_t *)other;
     return (a > b) - (a < b);
@@ -184,7 +221,7 @@ static void print_times(struct client *clients) {
         bytes += clients[i].bytes;
     }
     qsort(times, count, sizeof *times, compare);
-    printf("%zu %llu %u %u\n", count, (unsigned long long)bytes, times[(count - 1) / 2], times[(count - 1) * 99 / 100]);
+    printf("%zu %llu %u %u %u\n", count, (unsigned long long)bytes, times[(count - 1) / 2], times[(count - 1) * 99 / 100], times[count - 1]);
 }
 
 static int number(const char *word, int least, int most) {
@@ -195,27 +232,43 @@ static int number(const char *word, int least, int most) {
 }
 
 static enum kind kind_of(int words, char **word) {
+    if (words == 7 && !strcmp(word[1], "shown")) return SHOWN;
+    if (words == 9 && !strcmp(word[1], "manager") && !strcmp(word[6], "add")) return ADD;
     if (words == 9 && !strcmp(word[1], "manager") && !strcmp(word[6], "penalty")) return PENALTY;
     if (words == 9 && !strcmp(word[1], "manager") && !strcmp(word[6], "status")) return STATUS;
     if (words == 7 && !strcmp(word[1], "redis") && !strcmp(word[6], "hset")) return HSET;
-    fail("usage: load manager PORT SITES CLIENTS SECONDS penalty|status USER SECRET, or load redis PORT 1 CLIENTS SECONDS hset");
+    fail("usage: load manager PORT SITES CLIENTS SECONDS add|penalty|status USER SECRET, load redis PORT 1 CLIENTS SECONDS hset, or load shown PORT OTHER SECONDS USER SECRET");
     return HSET;
+}
+
+/* Reads what to do from the words of the command line. Returns the seconds that it takes. */
+static int read_words(int words, char **word) {
+    load.kind = kind_of(words, word);
+    load.port = number(word[2], 1, 65535);
+    if (load.kind == SHOWN) {
+        load.sites = 1, load.clients = 2, load.other = number(word[3], 1, 65535);
+        load.user = word[5], load.secret = word[6];
+        return number(word[4], 1, 3600);
+    }
+    load.sites = number(word[3], 1, 64);
+    load.clients = number(word[4], 1, MOST_CLIENTS);
+    if (load.kind != HSET) load.user = word[7], load.secret = word[8];
+    return number(word[5], 1, 3600);
 }
 
 int main(int words, char **word) {
     static struct client clients[MOST_CLIENTS];
-    load.kind = kind_of(words, word);
-    load.port = number(word[2], 1, 65535);
-    load.sites = number(word[3], 1, 64);
-    load.clients = number(word[4], 1, MOST_CLIENTS);
-    int seconds = number(word[5], 1, 3600);
-    if (load.kind != HSET) load.user = word[7], load.secret = word[8];
+    int seconds = read_words(words, word);
     load.begins = now() + 200000000u;
     load.ends = load.begins + (uint64_t)seconds * 1000000000u;
-    for (int i = 0; i < load.clients; i++) {
-        clients[i].number = i;
-        if (pthread_create(&clients[i].thread, NULL, run, &clients[i])) fail("no thread");
+    for (int i = 0; i < load.clients; i++) clients[i].number = i;
+    if (load.kind == SHOWN) {
+        run_shown(clients);
+        print_times(clients);
+        return 0;
     }
+    for (int i = 0; i < load.clients; i++)
+        if (pthread_create(&clients[i].thread, NULL, run, &clients[i])) fail("no thread");
     for (int i = 0; i < load.clients; i++) pthread_join(clients[i].thread, NULL);
     print_times(clients);
     return 0;

@@ -33,7 +33,7 @@ def compiled_clients(room):
 
 
 def measured(program, *words):
-    """What the clients print: requests, bytes of replies, and the nanoseconds within which half of the replies came, and 99 of 100."""
+    """What the clients print: requests, bytes of replies, and the nanoseconds within which half of the replies came, 99 of 100, and all."""
     ran = subprocess.run([program, *map(str, words)], capture_output=True, text=True, check=False)
     if ran.returncode:
         raise Failed(ran.stderr.strip())
@@ -71,7 +71,7 @@ def redis(room):
 
 
 def show(what, clients, sites, members, figures):
-    count, bytes_read, half, most = figures
+    count, bytes_read, half, most, _ = figures
     members = f"{members:,}" if members else "-"
     print(f"{what:<10} {clients:>8} {sites:>6} {members:>8} {count / SECONDS:>11,.0f} {bytes_read / SECONDS / 1e6:>7,.0f} "
           f"{half / 1e3:>8,.0f} us {most / 1e3:>8,.0f} us", flush=True)

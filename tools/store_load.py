@@ -1,0 +1,140 @@
+"""Measures a server with stores, with the clients of tools/load.c on the disk of the system's temporary folder, and prints a table:
+
+- durable adds and removals a second, by 1, 4 and 32 clients of one site; beside it commits of one such row a second by Python's sqlite3 on
+  the same disk, and by Redis with `appendfsync always`, where Debian's redis-server is installed
+- how long a status waits while 32 clients add, and while nobody does
+- how long a site takes to listen that has 16,384 members and 10,000 steps
+
+TMPDIR names another folder. It takes about a minute."""
+import concurrent.futures
+import contextlib
+import os
+import shutil
+import socket
+import sqlite3
+import subprocess
+import sys
+import tempfile
+import time
+
+from program_tests import Failed
+from server_load import compiled_clients, measured
+from server_tests import BUILT, PATIENCE, free_ports, need
+from store_tests import COLUMNS, MOST_ROWS, rows_of, stored
+
+SECONDS = 3
+CLIENTS = [1, 4, 32]
+MEMBERS = 16_384
+# The body of a row that adds a member, as long as one of the load.
+BODY = bytes(40)
+
+
+def show(what, clients, figures, seconds=SECONDS):
+    count, _, half, most, longest = figures
+    print(f"{what:<38} {clients:>7} {count / seconds:>9,.0f} {half / 1e3:>9,.0f} us {most / 1e3:>9,.0f} us {longest / 1e3:>9,.0f} us", flush=True)
+
+
+def commits():
+    """Commits one row after another by Python's sqlite3, as a site's store has them: with a log, each of which is on the disk."""
+    times = []
+    with tempfile.TemporaryDirectory() as folder, contextlib.closing(sqlite3.connect(f"{folder}/rows.db", isolation_level=None)) as store:
+        for it in ("PRAGMA locking_mode = EXCLUSIVE", "PRAGMA journal_mode = WAL", "PRAGMA synchronous = FULL", f"CREATE TABLE step {COLUMNS}"):
+            store.execute(it)
+        ends = time.monotonic() + SECONDS
+        while (started := time.monotonic_ns()) < ends * 1e9:
+            store.execute("INSERT INTO step VALUES (?, ?, ?, ?, ?)", (len(times), 1, 2, BODY, "QueueAdd sales SIP/own-0"))
+            times.append(time.monotonic_ns() - started)
+    times.sort()
+    return len(times), 0, times[len(times) // 2], times[len(times) * 99 // 100], times[-1]
+
+
+def durable_adds(program, clients):
+    """How many adds and removals a site with a store answers."""
+    with tempfile.TemporaryDirectory() as folder, stored(folder, 1, 64) as server:
+        return measured(program, "manager", server.port, 1, clients, SECONDS, "add", server.user, server.secret)
+
+
+def statuses(program, adding):
+    """How long a client waits for a status while others add."""
+    with tempfile.TemporaryDirectory() as folder, stored(folder, 1, 64) as server, concurrent.futures.ThreadPoolExecutor(1) as threads:
+        load = lambda clients, kind: measured(program, "manager", server.port, 1, clients, SECONDS, kind, server.user, server.secret)
+        job = threads.submit(load, adding, "add") if adding else None
+        figures = load(1, "status")
+        if job:
+            job.result()
+        return figures
+
+
+def add_all(server, first, number, clients=32):
+    """Adds members, by many clients at once, or changes them where they are there."""
+    def work(client_number):
+        with server.logged_in() as it:
+            for member in range(first + client_number, first + number, clients):
+                it.ask("QueueAdd" if member < MEMBERS else "QueuePenalty", Queue="sales", Interface=f"SIP/{member % MEMBERS}", Penalty=member % 1_000)
+
+    with concurrent.futures.ThreadPoolExecutor(clients) as threads:
+        list(threads.map(work, range(clients)))
+
+
+def start_of_a_full_site():
+    """How long a site takes to listen that has 16,384 members and nearly 10,000 steps, and how many these are."""
+    with tempfile.TemporaryDirectory() as folder:
+        with stored(folder, 1, 64) as server:
+            add_all(server, 0, MEMBERS)
+            # A base is put behind 10,000 rows.
+            rows = len(rows_of(folder, 0))
+            add_all(server, MEMBERS, MOST_ROWS - 200 - rows)
+            rows = len(rows_of(folder, 0))
+            server.stop()
+        started = time.monotonic()
+        with stored(folder, 1) as server:
+            listens = time.monotonic() - started
+            with server.logged_in() as it:
+                answers = time.monotonic() - started
+                need(b"ListItems: %d\r\n" % (MEMBERS + 1) in it.ask("QueueStatus"), "a full site that starts again lacks members")
+    return rows, listens, answers
+
+
+@contextlib.contextmanager
+def durable_redis(room):
+    """A Redis that has each change on the disk before it answers, at a port of its own."""
+    port = free_ports(1)
+    words = ["redis-server", "--port", str(port), "--bind", "127.0.0.1", "--save", "", "--appendonly", "yes", "--appendfsync", "always", "--dir", room]
+    with subprocess.Popen(words, stdout=subprocess.DEVNULL, stderr=subprocess.DEVNULL) as process:
+        try:
+            ends = time.monotonic() + PATIENCE
+            while True:
+                with contextlib.suppress(OSError), socket.create_connection(("127.0.0.1", port), 1):
+                    break
+                need(time.monotonic() < ends, "redis-server doesn't listen")
+                time.sleep(0.02)
+            yield port
+        finally:
+            process.terminate()
+
+
+def main():
+    need(os.path.exists(BUILT), f"{BUILT} isn't built")
+    print(f"{'request':<38} {'clients':>7} {'a second':>9} {'50%':>12} {'99%':>12} {'all':>12}")
+    has_redis = shutil.which("redis-server", path=f"{os.environ['PATH']}:/usr/sbin")
+    with tempfile.TemporaryDirectory() as room:
+        program = compiled_clients(room)
+        show("commit by Python's sqlite3", 1, commits())
+        for clients in CLIENTS:
+            show("add, durable", clients, durable_adds(program, clients))
+        for clients in CLIENTS if has_redis else []:
+            with tempfile.TemporaryDirectory() as folder, durable_redis(folder) as port:
+                show("Redis HSET, appendfsync always", clients, measured(program, "redis", port, 1, clients, SECONDS, "hset"))
+        show("status, nobody adds", 1, statuses(program, 0))
+        show("status, while 32 clients add", 1, statuses(program, 32))
+    rows, listens, answers = start_of_a_full_site()
+    print(f"start of a site with {MEMBERS:,} members and {rows:,} rows: it listens after {listens:.2f} s and answers after {answers:.2f} s")
+    if not has_redis:
+        print("store_load: redis-server isn't installed: its rows are left out")
+
+
+if __name__ == "__main__":
+    try:
+        main()
+    except Failed as why:
+        sys.exit(f"store_load: {why}")
