@@ -39,6 +39,8 @@ QUEUES = ("sales", "support")
 NOT_MINE = "another site has frames under this site's number that this site has not made"
 # How a connection is ended with a reset.
 RESET = struct.pack("ii", 1, 0)
+# The bytes of a beat with its tag.
+BEAT = 20
 # How many clients `site` answers at once, where it isn't said.
 PLACES = 16
 # What a site may log where an allocation is refused.
@@ -103,12 +105,13 @@ class Site(Server):
 class Proxy:
     """A port that leads to another one. Its connections can be cut, at once or after some bytes more (`left`); be silent, so that all bytes are
     dropped; delay each piece; or be so slow that not more than `rate` bytes a second go forth. `meddle` and `meddle_back` may alter the next
-    piece that goes forth, or back: a function of the piece, which returns what goes in its place, or nothing if it waits for another one."""
+    item that goes forth, or the next acknowledgement: a function of it with its tag, which returns what goes in its place, or nothing if it
+    waits for another one. Then both go whole (`goes_whole`)."""
 
     def __init__(self, target):
         self.target, self.is_up, self.is_silent, self.delay, self.rate, self.left = target, True, False, 0, None, None
         self.meddle = self.meddle_back = self.meddled = None
-        self.carried = 0
+        self.carried, self.goes_whole = 0, False
         self.listener = socket.create_server(("127.0.0.1", 0))
         self.port, self.pairs, self.lock = self.listener.getsockname()[1], [], threading.Lock()
         threading.Thread(target=self.accept, daemon=True).start()
@@ -134,20 +137,31 @@ class Proxy:
             for one, other in ((came, goes), (goes, came)):
                 threading.Thread(target=self.carry, args=(one, other, one is came), daemon=True).start()
 
-    def altered(self, piece, is_forth):
-        """What goes in the place of a piece."""
+    def altered(self, item, is_forth):
+        """What goes in the place of an item or an acknowledgement."""
         name = "meddle" if is_forth else "meddle_back"
         function = getattr(self, name)
-        changed = function(piece) if function else None
+        changed = function(item) if function else None
         if changed is None:
-            return piece
+            return item
         if not getattr(function, "goes_on", False):
             setattr(self, name, None)
             self.meddled = time.monotonic()
         return changed
 
+    def whole(self, held, is_forth):
+        """What goes now of these bytes, and those that wait until they are whole."""
+        goes = b""
+        while True:
+            # Behind both hellos: 37 and 90 bytes forth, 126 and 33 back.
+            size = 4 + int.from_bytes(held[:4], "big") + 16 if is_forth else 24
+            if len(held) < 4 or len(held) < size:
+                return goes, held
+            goes, held = goes + self.altered(held[:size], is_forth), held[size:]
+
     def carry(self, one, other, is_forth):
         """Copies bytes from one connection to the other."""
+        hello, held = 127 if is_forth else 159, b""
         with contextlib.suppress(OSError):
             while True:
                 piece = one.recv(1_024 if self.rate else 65_536)
@@ -158,7 +172,13 @@ class Proxy:
                 if self.rate and is_forth:
                     time.sleep(len(piece) / self.rate)
                 self.carried += len(piece) if is_forth else 0
-                piece = self.altered(piece, is_forth)
+                if self.goes_whole and not hello:
+                    piece, held = self.whole(held + piece, is_forth)
+                elif self.goes_whole:
+                    count = min(hello, len(piece))
+                    hello -= count
+                    rest, held = self.whole(piece[count:], is_forth) if not hello else (b"", b"")
+                    piece = piece[:count] + rest
                 if self.left is not None and is_forth:
                     # Only some more bytes go, and then the connection is cut.
                     piece, self.left = piece[:self.left], max(0, self.left - len(piece))
@@ -605,7 +625,7 @@ def items_that_are_refused():
         peer.send(peer.tagged(frame_of(42, 1, "SIP/bad"))[:40])
         peer.socket.close()
         site.logs("link from site 42 at ADDRESS: down: the connection ended in the middle of an item", REFUSED)
-        need(b"ListItems: 1\r\n" in shown(site), "a site has taken what it has refused")
+        need(members(shown(site)) == {}, "a site has taken what it has refused")
         # A good peer is heard behind all of them.
         peer = dialed(site, 43)
         peer.send(peer.tagged(frame_of(43, 1, "SIP/good")))
@@ -614,32 +634,27 @@ def items_that_are_refused():
     return "items that are refused"
 
 
+def of_frames(deed):
+    """What does this to the next frame."""
+    return lambda item: deed(item) if len(item) > BEAT else None
+
+
 def alter(at, mask=1):
-    """What alters a bit of the first frame that goes by, or of the first piece that goes back."""
-    def altered(piece):
-        if len(piece) <= 24:
-            return None
-        place = at % len(piece)
-        return piece[:place] + bytes([piece[place] ^ mask]) + piece[place + 1:]
+    """What alters a bit of an item."""
+    def altered(item):
+        place = at % len(item)
+        return item[:place] + bytes([item[place] ^ mask]) + item[place + 1:]
     return altered
 
 
-def alter_beat(piece):
-    return piece[:-1] + bytes([piece[-1] ^ 1]) if len(piece) == 20 else None
-
-
-def alter_back(piece):
-    return bytes([piece[0], piece[1] ^ 1]) + piece[2:]
-
-
 class Exchange:
-    """Sends the next frame behind the piece that follows it."""
+    """Sends the next frame behind the item that follows it."""
 
     def __init__(self):
         self.held, self.goes_on = None, False
 
     def __call__(self, piece):
-        if self.held is None and len(piece) <= 24:
+        if self.held is None and len(piece) == BEAT:
             return None
         self.goes_on = self.held is None
         if self.goes_on:
@@ -648,37 +663,46 @@ class Exchange:
         return piece + self.held
 
 
-def who_sits_on_the_line():
-    """What a line alters, repeats, leaves out, puts in or exchanges, forth and back, ends the link at once, with one line that says why. The link
-    is up again soon, and the sites show the same: nothing that was altered was taken."""
-    wrong, bad = "link from site 0 at ADDRESS: down: wrong tag", "link from site 0 at ADDRESS: down: bad length"
-    frames = lambda deed: lambda piece: deed(piece) if len(piece) > 24 else None
-    forth = [
-        (alter(40), wrong), (alter(-1), wrong), (alter(0, 0x80), bad), (alter(5), wrong), (alter_beat, wrong),
-        (frames(lambda piece: piece + piece), wrong), (frames(lambda piece: piece[:7] + piece[8:]), wrong), (frames(lambda piece: bytes(20) + piece), wrong),
-        (frames(lambda piece: piece[:9] + b"\0" + piece[9:]), wrong), (frames(lambda piece: bytes(len(piece))), wrong), (frames(lambda piece: b""), wrong), (Exchange(), wrong),
-    ]
+def meddle_with(deeds):
+    """Does each of these to the line between two sites: what is done, whether forth, and what is logged then. Returns how long that took at
+    most."""
+    slowest, added = 0, 0
     with tempfile.TemporaryDirectory() as room, Mesh(room, 2) as mesh:
-        line, first, second = mesh.proxies[0, 1], mesh.sites[0], mesh.sites[1]
-        added, slowest = 0, 0
-
-        def meddles(site, name, deed, why):
-            nonlocal added, slowest
+        line = mesh.proxies[0, 1]
+        line.goes_whole = True
+        line.cut()
+        for deed, is_forth, why in deeds:
             mesh.until_equal(added, HEALED)
+            site = mesh.sites[1 if is_forth else 0]
             site.forget_log()
-            setattr(line, name, deed)
-            first.add(f"SIP/{added}")
+            line.meddled = None
+            setattr(line, "meddle" if is_forth else "meddle_back", deed)
+            mesh.sites[0].add(f"SIP/{added}")
             added += 1
-            # A piece that is left out is missed at the next one, at the latest a beat.
-            site.logs(why, REFUSED + 1.5)
+            # What is left out is missed at the next item, which comes within a second. A site looks for acknowledgements once a second.
+            site.logs(why, 4)
             slowest = max(slowest, time.monotonic() - line.meddled)
-
-        second.logs("link from site 0 at ADDRESS: up")
-        for deed, why in forth:
-            meddles(second, "meddle", deed, why)
-        meddles(first, "meddle_back", alter_back, f"link to 127.0.0.1:{line.port}: down: wrong tag")
+            need(slowest < REFUSED + 1, f"what is done to a line is found after {slowest:.1f} seconds: {why}")
         mesh.until_equal(added, HEALED)
-    return f"{len(forth) + 1} deeds of who sits on a line: found after {slowest:.1f} s at most"
+    return slowest
+
+
+def who_sits_on_the_line():
+    """What a line alters, repeats, leaves out, puts in or exchanges, forth and back, ends the link, with one line that says why. The link is up
+    again soon, and the sites show the same: nothing that was altered was taken."""
+    wrong, bad = "link from site 0 at ADDRESS: down: wrong tag", "link from site 0 at ADDRESS: down: bad length"
+    at_dialer = "link to ADDRESS: down: wrong tag"
+    deeds = [
+        (alter(0, 0x80), bad), (alter(3), wrong), (alter(5), wrong), (alter(40), wrong), (alter(-16), wrong), (alter(-1), wrong),
+        (lambda item: item + item, wrong), (lambda item: bytes(4) + item[-16:] + item, wrong), (lambda item: item[:-16] + bytes(16), wrong),
+        (lambda item: item[:9] + b"\0" + item[9:], wrong), (lambda item: b"", wrong),
+    ]
+    all_deeds = [(of_frames(deed), True, why) for deed, why in deeds]
+    all_deeds += [(lambda item: alter(-1)(item) if len(item) == BEAT else None, True, wrong), (Exchange(), True, wrong)]
+    all_deeds += [(deed, False, at_dialer) for deed in (alter(1), alter(-1), lambda item: item + item, lambda item: b"")]
+    with concurrent.futures.ThreadPoolExecutor(6) as threads:
+        slowest = max(threads.map(meddle_with, (all_deeds[at::6] for at in range(6))))
+    return f"{len(all_deeds)} deeds of who sits on a line: found after {slowest:.1f} s at most"
 
 
 def a_late_item(seconds=60):

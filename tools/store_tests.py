@@ -38,6 +38,8 @@ WORDS = {
     WHOLE: re.compile(r"whole, \d+ bytes"),
     START: re.compile(r"start"),
 }
+# The bytes of a page of a store.
+PAGE = 4_096
 # The user and group that may write nothing.
 NOBODY = 65_534
 # Past how many rows since its base a store gets a new one.
@@ -329,7 +331,8 @@ def told_of(folder, site, *faults):
 
 
 def refuses(folder, site, *faults, sites=1, queues=("sales",), program=BUILT, **how):
-    """A server doesn't start with the files in this folder, says why, and changes nothing in them. Why may be one of these."""
+    """A server doesn't start with the files in this folder, says why, and changes nothing in them; it may make a log without a page. Why may be
+    one of these."""
     before = files_of(folder, site) if os.path.isdir(folder) else {}
     words = ["serve", "--store", folder, str(sites), str(free_ports(sites)), USER, SECRET, *queues]
     how = {"preexec_fn": how.get("before"), "capture_output": True, "timeout": PATIENCE, "check": False}
@@ -337,7 +340,8 @@ def refuses(folder, site, *faults, sites=1, queues=("sales",), program=BUILT, **
     need(ran.returncode == 1 and ran.stdout == b"" and ran.stderr in told_of(folder, site, *faults),
          f"where a server should say {faults!r} of a store its status is {ran.returncode}, and it says {ran.stdout + ran.stderr!r}")
     after = files_of(folder, site) if os.path.isdir(folder) else {}
-    changed = [it for it in {*before, *after} if after.get(it, b"") != before.get(it, b"")]
+    content = lambda files, name: b"" if len(files.get(name, b"")) < PAGE and name.endswith("-wal") else files.get(name, b"")
+    changed = [it for it in {*before, *after} if content(after, it) != content(before, it)]
     need(not changed, f"a server that says {ran.stderr!r} has changed {changed!r}")
     return ran.stderr
 
@@ -399,7 +403,7 @@ def other_files():
         for name, content in files_of(folder, 0).items():
             half = put(f"{room}/only-{name}", name, content)
             refuses(half, 0, "no store")
-            need(sorted(it for it, content in files_of(half, 0).items() if content) == [name], f"a store of which {name} alone is left was made anew")
+            need(name == "site-0.db" or [*files_of(half, 0)] == [name], f"a store of which {name} alone is left was made anew")
         table = f"{room}/table"
         os.mkdir(table)
         with contextlib.closing(sqlite3.connect(f"{table}/site-0.db")) as notes:
