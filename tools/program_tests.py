@@ -259,13 +259,14 @@ def preview_of_a_server():
         pass
 
 
-def compiled_refusal(room):
-    """The library that refuses an allocation of a program that it is loaded before. Nothing where there is no C compiler."""
+def compiled_refusal(room, name="refuse_allocation"):
+    """The library that refuses an allocation of a program that it is loaded before, or that of another name. Nothing where there is no C
+    compiler."""
     compiler = next(filter(None, map(shutil.which, ["cc", "gcc", "clang"])), None)
     if not compiler:
         return None
-    library = f"{room}/refuse_allocation.so"
-    source = f"{TOP}/tools/refuse_allocation.c"
+    library = f"{room}/{name}.so"
+    source = f"{TOP}/tools/{name}.c"
     subprocess.run([compiler, "-shared", "-fPIC", "-O1", "-o", library, source, "-ldl"], check=True)
     return library
 
@@ -285,7 +286,7 @@ def refusing(room):
     return run_refusing
 
 
-NO_COMPILER = "no allocation was refused: there is no C compiler here"
+NO_COMPILER = "nothing was refused: there is no C compiler here"
 
 
 def refused_allocations(room):

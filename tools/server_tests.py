@@ -343,6 +343,12 @@ def secrets_of_files():
             with Server(1, secret=secret, options=["--secret-file", name]) as server:
                 server.logged_in().leave()
                 server.stop_silent()
+        # A word that begins with @ is a secret like others, also if it names a file.
+        with Server(1, secret=f"@{name}") as server:
+            server.logged_in().leave()
+            with server.client() as it:
+                reply = it.ask("Login", Username=USER, Secret="@s3")
+                need(reply == b"Response: Error\r\nMessage: Authentication failed\r\n\r\n", f"the content of a file is taken for @FILE: {reply!r}")
     return "secrets in files"
 
 
@@ -858,6 +864,53 @@ def no_connections():
     return "a system that has no connections to give"
 
 
+def connections_not_prepared():
+    """If a system call fails that prepares a connection, it is closed without a greeting, and one line says which call and why. The next client
+    is served."""
+    with tempfile.TemporaryDirectory() as room:
+        library = compiled_refusal(room, "refuse_option")
+        if library is None:
+            return NO_COMPILER
+        for option in ("nodelay", "write_timeout"):
+            with Server(1, more={"LD_PRELOAD": library, "REFUSED_OPTION": option}) as server:
+                first = Client(server.port)
+                need(first.rest() == b"", "a client is greeted whose connection could not be prepared")
+                first.socket.close()
+                server.logged_in().leave()
+                server.stop_logged((0, first.name, f"connection not prepared: set_{option}: No buffer space available (os error 105)"))
+    return "connections that can't be prepared"
+
+
+def too_many_reads():
+    """A client that sends byte by byte makes its site read 1,000,000 times: then its session ends. All replies to what was read before arrive, and
+    what came behind is counted."""
+    # Few replies, and many bytes.
+    message = b"Action: Dance\r\n" + 100 * b"X: some bytes\r\n" + b"\r\n"
+    pieces = [message[at:at + 1] for at in range(len(message))]
+    with Server(1) as server:
+        it, sent, ended = server.logged_in(), 0, threading.Event()
+
+        def read():
+            it.rest()
+            ended.set()
+
+        reader = threading.Thread(target=read)
+        it.socket.settimeout(10 * PATIENCE)
+        reader.start()
+        while not ended.is_set():
+            for piece in pieces:
+                it.socket.send(piece)
+            sent += 1
+        reader.join()
+        reply = b"Response: Error\r\nMessage: Invalid/unknown command\r\n\r\n"
+        answered = it.held.count(reply)
+        need(it.held == answered * reply, "a client that sends byte by byte gets other bytes than whole replies")
+        need(sent * len(message) >= 1_000_000 > answered and answered, f"{answered} of {sent} commands are answered")
+        server.stop_logged((0, it.name, f"session ended: too many reads; {sent - answered} commands behind it were not done"))
+        it.socket.close()
+    return f"1,000,000 reads, behind {answered:,} commands of {sent:,} that came byte by byte"
+
+
 def fill(server, site, members):
     """Adds a number of members at a site."""
     with server.logged_in(site) as it:
@@ -1139,7 +1192,7 @@ def run_all():
     tests = [wrong_words, ports_that_are_taken, output_that_ends, two_clients, secrets_of_files, greets_as_it_is_told, listens_where_it_is_told,
              sessions_of_files, clients_at_once, members_of_their_own,
              sites_that_are_full, fifth_client, places, clients_in_line, verbose_log, failed_logins, replies_before_the_end, clients_that_linger,
-             hostile_streams, hostile_clients, no_connections, idle_clients, long_reports, clients_that_hold_on, four_silent_clients, deaf_standard_error, signals]
+             hostile_streams, hostile_clients, no_connections, connections_not_prepared, too_many_reads, idle_clients, long_reports, clients_that_hold_on, four_silent_clients, deaf_standard_error, signals]
     with tempfile.TemporaryDirectory() as room:
         return [*(test() for test in tests), refused_allocations(room)]
 

@@ -385,7 +385,7 @@ def news_over_a_slow_line(number=500, changes=6_000):
         until_shown(second, 0, b"Location: SIP/news\r\n", 60)
         seconds, carried = time.monotonic() - started, mesh.proxies[0, 1].carried - carried
         need(all(b": down: " not in it.read_log(lambda _: True) for it in mesh.sites.values()), "a slow link falls")
-        need(slowest < 0.25, f"beside a slow line an ask takes {slowest:.3f} s")
+        need(slowest < 0.5, f"beside a slow line an ask takes {slowest:.3f} s")
         for it in mesh.proxies.values():
             it.rate = None
         mesh.until_equal(number + 1, HEALED)
@@ -901,15 +901,17 @@ def run_refused(room, library, number, stores):
         site = Site(place, 0, ports[0], ports, more=more, **how(0))
         has_ended = not site.wait_until_it_listens()
         ends = time.monotonic() + PATIENCE
+        reports = []
         while not has_ended:
             with contextlib.suppress(OSError, Failed):
                 for it in (site, other):
                     with it.logged_in() as client:
                         client.ask("QueueAdd", Queue="sales", Interface=f"SIP/{it.number}")
-                if shown(site) == shown(other) and members(shown(site)) == {"SIP/0": 0, "SIP/1": 0}:
+                reports = [shown(it) for it in (site, other)]
+                if reports[0] == reports[1] and members(reports[0]) == {"SIP/0": 0, "SIP/1": 0}:
                     break
             has_ended = site.process.poll() is not None
-            need(time.monotonic() < ends or has_ended, f"where allocation {number} is refused sites show {members(shown(site))!r} and {members(shown(other))!r}")
+            need(time.monotonic() < ends or has_ended, f"where allocation {number} is refused sites show {[members(it) for it in reports]!r}")
             time.sleep(0.05)
         if has_ended:
             site.process.wait(PATIENCE)
