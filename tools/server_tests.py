@@ -84,7 +84,11 @@ class Server:
         self.printed, self.logged = b"", b""
 
     def __enter__(self):
-        self.wait_until_it_listens()
+        try:
+            self.wait_until_it_listens()
+        except BaseException:
+            self.stop()
+            raise
         return self
 
     def __exit__(self, *_):
