@@ -86,7 +86,7 @@ def namespaces():
 
 def set_links(which, way):
     for site in which:
-        ip("link", "set", f"{BRIDGE}-{site}", way)
+        ip("-n", name_of(site), "link", "set", "eth0", way)
 
 
 def until_equal(sites, number, seconds):

@@ -721,9 +721,13 @@ def a_late_item(seconds=60):
     return f"an item that isn't whole after {taken:.0f} seconds"
 
 
-def ends_by_itself(site, reason, seconds=5):
-    """A site says within a second why it ends, and ends with status 1. Returns how long it took to say so and to end, since it listened."""
-    with site:
+def ends_by_itself(site, reason, seconds=5, asks=True):
+    """A site says within a second why it ends, and ends with status 1. If it `asks`, a client asks for a change at once, and is not answered: the
+    site makes no change under a number that it must not use. Returns how long it took to say why and to end, since it listened."""
+    with site, contextlib.ExitStack() as clients:
+        if asks:
+            client = clients.enter_context(Client(site.port))
+            client.send(f"Action: Login\r\nUsername: {USER}\r\nSecret: {SECRET}\r\n\r\nAction: QueueAdd\r\nQueue: sales\r\nInterface: SIP/no\r\n\r\n".encode())
         site.logs(f"ends: {reason}", REFUSED)
         said = time.monotonic() - site.listens
         try:
@@ -734,6 +738,7 @@ def ends_by_itself(site, reason, seconds=5):
         need(status == 1, f"a site that ends by itself has status {status}")
         told = site.stop()
         need(told.count(b": ends: ") == 1, f"a site that ends logs {told!r}")
+        need(not asks or b"Added interface" not in client.rest(), f"a site that ends answers a change before: {reason}")
         return said, ended
 
 
@@ -764,7 +769,7 @@ def sites_that_end():
         mesh.until_equal(3, EQUAL)
         # Another process with the number of site 2.
         peers = [mesh.links[0], mesh.links[1]]
-        took = [ends_by_itself(Site(room, 2, free_ports(1), peers), "the site number belongs to another store")]
+        took = [ends_by_itself(Site(room, 2, free_ports(1), peers, f"{room}/other.db"), "the site number belongs to another store")]
         # Site 2 starts from an older copy of its files: at first as often as the others have seen, and then less often.
         mesh.sites[2].stop()
         first = copies(room, 2)
@@ -788,7 +793,7 @@ def sites_that_end():
         peer = dialed(site, 7)
         site.listens = time.monotonic()
         peer.send(peer.tagged(frame_of(7, 1, "SIP/none", dot_site=0, count=4)))
-        took.append(ends_by_itself(site, NOT_MINE))
+        took.append(ends_by_itself(site, NOT_MINE, asks=False))
     said, ended = (max(times) for times in zip(*took))
     return f"sites that end, which say why after {said:.1f} s and end after {ended:.1f} s: another store, an older copy, another's frames"
 
@@ -946,50 +951,24 @@ def all_refused_allocations():
     return "; ".join(refused_allocations(None, stores) for stores in (False, True))
 
 
-def wrong_words():
-    """Errors for wrong command lines, in their order."""
+def words_of_a_site():
+    """The defaults of a site's options, and secrets in files; tools/program_tests.py has the errors of its words in their order."""
+    for text in (b"queue_sites site", b"[default: 600]", b"[default: 16]", b"[default: 127.0.0.1:5038]", b"[default: 127.0.0.1:7038]"):
+        check(BUILT, ["site", "--help"], 0, printed=text)
     with tempfile.TemporaryDirectory() as room:
-        def write(name, text):
+        def file_of(name, text):
             with open(f"{room}/{name}", "w", encoding="ascii") as file:
                 file.write(text)
             return f"{room}/{name}"
 
-        secret, shared, short = write("secret", "s3\n"), write("shared", f"{SHARED}\n"), write("short", "15 characters..\n")
-        files, volatile = ["--secret-file", secret, "--link-secret-file", shared], ["--volatile"]
-        site = lambda *words: ["site", *words]
-        right = ["3", USER, "sales", *files, *volatile]
-        for text in (b"queue_sites site", b"[default: 600]", b"[default: 16]", b"[default: 127.0.0.1:5038]", b"[default: 127.0.0.1:7038]"):
-            check(BUILT, site("--help"), 0, printed=text)
-        for number in ("64", "-1", "one"):
-            check(BUILT, site(number, *right[1:]), 2, told=b"error: ")
-        check(BUILT, site("3", USER, *files, *volatile), 2, told=b"required arguments were not provided")
-        check(BUILT, site("3", USER, "sales", *files), 2, told=b"required arguments were not provided")
-        check(BUILT, site("3", USER, "sales", *files[:2], *volatile), 2, told=b"required arguments were not provided")
-        check(BUILT, site("3", USER, "sales", *files[2:], *volatile), 2, told=b"required arguments were not provided")
-        check(BUILT, site(*right, "--store", f"{room}/store"), 2, told=b"cannot be used with")
-        for word in ("nowhere", "127.0.0.1", ":5038", "127.0.0.1:", "127.0.0.1:65536", "::1:5038", "[::1]"):
-            check(BUILT, site(*right, "--clients", word), 2, told=b"queue_sites: bad address of clients\n")
-            check(BUILT, site(*right, "--links", word), 2, told=b"queue_sites: bad address of links\n")
-            check(BUILT, site(*right, "--peer", "127.0.0.1:1", "--peer", word), 2, told=b"queue_sites: bad address of a peer\n")
-        many = [word for number in range(65) for word in ("--peer", f"10.0.0.{number}:7038")]
-        check(BUILT, site(*right, *many), 2, told=b"queue_sites: more than 64 peers\n")
-        check(BUILT, site("3", USER, "sales", "sales", *files, *volatile), 2, told=b"queue_sites: bad queue list\n")
-        missing, no_file = f"{room}/none", b"No such file or directory (os error 2)\n"
-        words = lambda one, other: site("3", USER, "sales", "--secret-file", one, "--link-secret-file", other, *volatile)
-        check(BUILT, words(missing, shared), 1, told=b"queue_sites: cannot read the secret's file: " + no_file)
-        check(BUILT, words(secret, missing), 1, told=b"queue_sites: cannot read the link secret's file: " + no_file)
-        check(BUILT, words(secret, short), 2, told=b"queue_sites: bad link secret\n")
-        check(BUILT, words(secret, write("long", "a" * 81)), 2, told=b"queue_sites: bad link secret\n")
-        check(BUILT, words(write("empty", "\n"), shared), 2, told=b"queue_sites: bad text\n")
-        check(BUILT, site(*right[:-1], "--store", f"{room}/none/store"), 1, told=f"queue_sites: store {room}/none/store: cannot open\n".encode())
-        with socket.create_server(("127.0.0.1", 0)) as taken:
-            port, free = taken.getsockname()[1], f"127.0.0.1:{free_ports(1)}"
-            told = b"queue_sites: cannot listen on 127.0.0.1:%d: Address already in use (os error 98)\n" % port
-            check(BUILT, site(*right, "--clients", f"127.0.0.1:{port}", "--links", free), 1, told=told)
-            check(BUILT, site(*right, "--clients", free, "--links", f"127.0.0.1:{port}"), 1, told=told)
-        with open("/dev/full", "wb") as full:
-            check(BUILT, site(*right, "--clients", "127.0.0.1:0", "--links", "127.0.0.1:0"), 1, told=b"queue_sites: write failed\n", out=full)
-    return "the words and texts of a site"
+        secret, shared = file_of("secret", "s3\n"), file_of("shared", f"{SHARED}\n")
+        words = lambda one, other: ["site", "3", USER, "sales", "--secret-file", one, "--link-secret-file", other, "--volatile"]
+        for content in ("", "\n", "15 characters..\n", "a" * 81):
+            check(BUILT, words(secret, file_of("bad", content)), 2, told=b"queue_sites: bad link secret\n")
+        check(BUILT, words(file_of("empty", "\n"), shared), 2, told=b"queue_sites: bad text\n")
+        with Site(room, 3, free_ports(1), shared="a" * 80 + "\r\nmore") as site, socket.create_connection(("127.0.0.1", site.links)) as connection:
+            need(Peer(connection, 4, shared="a" * 80).verdict == 0, "a secret of 80 bytes that ends in CR LF is refused")
+    return "the words and secrets of a site"
 
 
 def stores_of_sites():
@@ -1008,7 +987,7 @@ def stores_of_sites():
     return "a site's store"
 
 
-TESTS = [wrong_words, stores_of_sites, clients_of_a_site, addresses, three_sites, links_that_are_down, only_by_another, slow_lines,
+TESTS = [words_of_a_site, stores_of_sites, clients_of_a_site, addresses, three_sites, links_that_are_down, only_by_another, slow_lines,
          news_over_a_slow_line, restarts, a_peer_of_another_program, hellos_that_are_refused, items_that_are_refused, who_sits_on_the_line,
          sites_that_end, silent_connections, a_peer_that_reads_nothing, refused_allocations]
 # What `all` changes, and what it does besides.

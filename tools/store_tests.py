@@ -4,6 +4,7 @@ are no stores of its sites, fills its disk, and refuses its allocations.
     python3 -B tools/store_tests.py [all] [NAME..]
 
 `all`: 100 kills and every allocation, where `./test` has 20 kills and some allocations. NAME: these tests alone."""
+import concurrent.futures
 import contextlib
 import os
 import random
@@ -182,11 +183,21 @@ def check_rows(rows):
         need(WORDS[kind].fullmatch(words), f"the words of a row of kind {kind} are {words!r}")
 
 
+def check_frames(rows, site):
+    """Needs that the frames that a site has made have its number, and their own numbers grow: none is used again behind a crash."""
+    frames = [body for _, _, kind, body, _ in rows if kind in (CUT, WHOLE)]
+    need(all(it[7] == site for it in frames), "a store has a frame of another maker")
+    numbers = [int.from_bytes(it[8:16], "big") for it in frames]
+    need(all(one < other for one, other in zip(numbers, numbers[1:])), f"the numbers of a site's frames are {numbers!r}")
+
+
 def check_words(folder, sites, starts):
-    """Needs that a base stands first in each store, that the words of all rows read as they should, and that the starts are counted."""
+    """Needs that a base stands first in each store, that the words of all rows read as they should, that the numbers of frames go on, and that
+    the starts are counted."""
     for site in range(sites):
         rows = rows_of(folder, site)
         check_rows(rows)
+        check_frames(rows, site)
         need([it[2] == BASE for it in rows] == [True, *[False] * (len(rows) - 1)], "a store doesn't have one base, in front")
         counted = int(re.fullmatch(rf"base of site {site}, started (\d+) times", rows[0][4])[1]) + sum(it[2] == START for it in rows)
         need(counted == starts, f"a site was started {starts} times, and its store counts {counted}")
@@ -233,7 +244,8 @@ def kills(times=20, clients=32, sites=2):
     lot, owners = random.Random(1), [Owner(number, number % sites) for number in range(clients)]
     with tempfile.TemporaryDirectory() as folder:
         for turn in range(times):
-            with stored(folder, sites, clients // sites) as server:
+            # Some places more, since that of a client that has left is free a little later.
+            with stored(folder, sites, clients // sites + 4) as server:
                 check_shown(server, owners)
                 working = Working(owners, lambda it: (server, it.site), turn * clients)
                 time.sleep(lot.uniform(0.05, 0.5))
@@ -600,50 +612,50 @@ def some_of(allocations, number):
 def starts_again(folder, number, is_served):
     """A server one of whose allocations was refused starts again with the files that it leaves, and has what it has answered."""
     with stored(folder) as server:
+        need(server.printed == server.lines(), f"a server doesn't start with the files that it left where allocation {number} was refused")
         for site in range(2) if is_served else []:
             until_shown(server, site, b"Location: SIP/1\r\n", CAUGHT_UP)
-        need(server.process.poll() is None, f"a server doesn't go on over the files that it left where allocation {number} was refused")
         shown(server)
         server.stop()
+
+
+def end_refused(room, library, number):
+    """Runs a server of two sites with stores, with an allocation refused, and starts it again. Returns how many allocations it has made, and how
+    it has ended: `served` if it hasn't."""
+    os.mkdir(folder := f"{room}/stores-{number}")
+    counted = f"{room}/allocations-{number}"
+    more = {"LD_PRELOAD": library, "REFUSED_ALLOCATION": str(number), "ALLOCATIONS_FILE": counted}
+    server, status = run_refused(more, ["--store", folder])
+    told = server.stop()
+    texts = [b"queue_sites: out of memory\n", b"queue_sites: no thread\n", *told_of(folder, 0, "out of memory"), *told_of(folder, 1, "out of memory")]
+    lines = [it for it in told.splitlines(keepends=True) if it not in new_lines(folder, 2).splitlines(keepends=True)]
+    others = [it for it in lines if not TOLD.fullmatch(it.strip())]
+    how = "served" if status is None else "failed" if any(b": store failed: " in it for it in lines) else "ended"
+    is_right = {
+        "served": not others,
+        "failed": status == 1 and len(others) == 1 and b": store failed: " in others[0],
+        "ended": status == 1 and len(others) == 1 and others[0] in texts,
+    }
+    need(is_right[how], f"where allocation {number} is refused a server has {how}, its status is {status}, and it logs {told!r}")
+    starts_again(folder, number, status is None)
+    shutil.rmtree(folder)
+    return int(read(counted)), how
 
 
 def refused_allocations(number=SOME_ALLOCATIONS):
     """With each allocation of a run with stores refused in turn, or some, the server ends with status 1 and a text before it serves a client, or
     with a line that says that its store has failed, or serves on. It starts again with the files that it leaves, and has what it has
     answered."""
-    with tempfile.TemporaryDirectory() as room:
+    with tempfile.TemporaryDirectory() as room, concurrent.futures.ThreadPoolExecutor(4) as threads:
         library = compiled_refusal(room)
         if library is None:
             return NO_COMPILER
-        counted, ended, failed = f"{room}/allocations", 0, 0
-
-        def run(number):
-            folder = f"{room}/stores-{number}"
-            os.mkdir(folder)
-            more = {"LD_PRELOAD": library, "REFUSED_ALLOCATION": str(number), "ALLOCATIONS_FILE": counted}
-            server, status = run_refused(more, ["--store", folder])
-            told = server.stop()
-            return folder, server, status, told
-
-        run(0)
-        allocations = int(read(counted))
+        allocations, _ = end_refused(room, library, 0)
         tried = some_of(allocations, number)
-        for at in tried:
-            folder, server, status, told = run(at)
-            texts = [b"queue_sites: out of memory\n", b"queue_sites: no thread\n", *told_of(folder, 0, "out of memory"), *told_of(folder, 1, "out of memory")]
-            lines = [it for it in told.splitlines(keepends=True) if it not in new_lines(folder, 2).splitlines(keepends=True)]
-            if status is None:
-                need(all(TOLD.fullmatch(it.strip()) for it in lines), f"where allocation {at} is refused the server logs {told!r}")
-            elif any(b": store failed: " in it for it in lines):
-                failed += 1
-                need(status == 1 and sum(b": store failed: " in it for it in lines) == 1, f"where allocation {at} is refused the server logs {told!r}")
-            else:
-                ended += 1
-                need(status == 1 and len(lines) == 1 and lines[0] in texts, f"where allocation {at} is refused the status is {status}, and it says {told!r}")
-            starts_again(folder, at, status is None)
-            shutil.rmtree(folder)
+        ends = [how for _, how in threads.map(lambda it: end_refused(room, library, it), tried)]
     which = "each" if len(tried) == allocations else f"{len(tried)}"
-    return f"{which} of the {allocations} allocations of a run with stores refused: {ended} ended it, {failed} failed its store, the others let it serve on"
+    return (f"{which} of the {allocations} allocations of a run with stores refused: {ends.count('ended')} ended it, {ends.count('failed')} failed its "
+            f"store, the others let it serve on")
 
 
 TESTS = [greets_with_stores, kills, opened_again, new_bases, kept_rows, other_files, files_in_use, damaged_files, damaged_logs, rolled_back,
