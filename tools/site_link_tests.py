@@ -469,19 +469,23 @@ class Peer:
             self.send(b"\0" + self.code(b"verdict", both, b"\0"))
         self.items, self.acks = self.code(b"items", both), self.code(b"acknowledgements", both)
 
+    def item(self):
+        """The next item, with its tag, of a peer that was dialed."""
+        length = self.read(4)
+        return length + self.read(int.from_bytes(length, "big") + 16)
+
     def tagged(self, item):
         """An item with its tag."""
         tag = hmac.new(self.items, self.counter.to_bytes(8, "big") + item, hashlib.sha256).digest()[:16]
         self.counter += 1
         return item + tag
 
-    def beat_until(self, is_enough, seconds=PATIENCE):
-        """Sends beats, so that the link stands, until this holds."""
-        ends = time.monotonic() + seconds
-        while not is_enough():
-            need(time.monotonic() < ends, f"what a peer waits for isn't there after {seconds} seconds")
-            self.send(self.tagged(bytes(4)))
-            time.sleep(0.05)
+    def acknowledgement(self, number):
+        """An acknowledgement with its tag, of a peer that was dialed."""
+        item = number.to_bytes(8, "big")
+        tag = hmac.new(self.acks, self.counter.to_bytes(8, "big") + item, hashlib.sha256).digest()[:16]
+        self.counter += 1
+        return item + tag
 
     def is_closed(self):
         """Whether the site ends the connection within a second, whatever it writes before."""
@@ -828,6 +832,43 @@ def a_peer_that_reads_nothing(asks=4_000):
     return f"a peer that reads nothing: the slowest of {asks:,} asks takes {1_000 * slowest:.0f} ms; {grown >> 10:,} KiB more memory"
 
 
+def acknowledgements_that_are_refused():
+    """A site that sends ends a link, with a line that says why, whose peer acknowledges more bytes than were sent, or fewer than before, also if
+    more follow in the same piece, or under a wrong tag, or that says that it refuses a frame; and it sends a whole to one that is behind."""
+    with tempfile.TemporaryDirectory() as room, socket.create_server(("127.0.0.1", 0)) as listener:
+        listener.settimeout(PATIENCE)
+        with Site(room, 0, free_ports(1), [listener.getsockname()[1]]) as site:
+            store = os.urandom(16)
+            site.add("SIP/0")
+            # The first beat and the whole have more bytes than are acknowledged here.
+            for numbers, why in (
+                ([1 << 40], "bytes were acknowledged that were not sent"),
+                ([40, 20], "an acknowledgement went back"),
+                ([20, 60, 59, 64], "an acknowledgement went back"),
+                (None, "wrong tag"),
+                ([(1 << 64) - 1], "a frame was refused there"),
+            ):
+                connection, _ = listener.accept()
+                peer = Peer(connection, 1, is_dialer=False, store=store)
+                need(peer.verdict == 0 and len(peer.read(64)) == 64, "a site doesn't send a beat and a whole to a peer that accepts")
+                site.forget_log()
+                peer.send(bytes(24) if numbers is None else b"".join(map(peer.acknowledgement, numbers)))
+                # A site looks for acknowledgements once a second.
+                site.logs(f"link to ADDRESS: down: {why}", REFUSED + 1)
+                connection.close()
+            connection, _ = listener.accept()
+            peer = Peer(connection, 1, is_dialer=False, store=store)
+            beat, whole = peer.read(BEAT), peer.item()
+            need(b"SIP/0" in whole and beat[:4] == bytes(4), "a site doesn't send a beat and a whole to a peer that accepts")
+            peer.send(peer.acknowledgement((1 << 64) - 2))
+            ends = time.monotonic() + REFUSED + 1
+            while len(again := peer.item()) == BEAT:
+                need(time.monotonic() < ends, "a site sends no whole to a peer that is behind")
+            need(again[16:-16] == whole[16:-16], "a site sends another whole to a peer that is behind")
+            connection.close()
+    return "acknowledgements that are refused"
+
+
 def addresses():
     """Sites listen at addresses of IPv6, find others there and by name, and say which port the system has chosen."""
     if not has_ipv6():
@@ -989,7 +1030,7 @@ def stores_of_sites():
 
 TESTS = [words_of_a_site, stores_of_sites, clients_of_a_site, addresses, three_sites, links_that_are_down, only_by_another, slow_lines,
          news_over_a_slow_line, restarts, a_peer_of_another_program, hellos_that_are_refused, items_that_are_refused, who_sits_on_the_line,
-         sites_that_end, silent_connections, a_peer_that_reads_nothing, refused_allocations]
+         acknowledgements_that_are_refused, sites_that_end, silent_connections, a_peer_that_reads_nothing, refused_allocations]
 # What `all` changes, and what it does besides.
 LONGER = {refused_allocations: all_refused_allocations}
 MORE = [a_late_item]

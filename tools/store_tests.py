@@ -536,7 +536,7 @@ def rolled_back(members_of=3):
                 need(b"Added interface" not in answers, f"a site that was rolled back answers {answers!r}")
                 need(server.process.wait(PATIENCE) == 1, f"a server with a site that was rolled back ends with status {server.process.returncode}")
                 told = server.stop()
-                line = b"queue_sites: site 0: ends: a frame of site 1: not this site's own\n"
+                line = b"queue_sites: site 0: ends: rolled back: a frame of site 1: not this site's own\n"
                 need(told.count(line) == 1, f"a server with a site that was rolled back logs {told!r}")
     return "sites that were rolled back: an older copy, and a store that is lost"
 
