@@ -609,14 +609,29 @@ def some_of(allocations, number):
     return sorted({1 + place * (allocations - 1) // (number - 1) for place in range(number)})
 
 
-def starts_again(folder, number, is_served):
-    """A server one of whose allocations was refused starts again with the files that it leaves, and has what it has answered."""
-    with stored(folder) as server:
-        need(server.printed == server.lines(), f"a server doesn't start with the files that it left where allocation {number} was refused")
-        for site in range(2) if is_served else []:
-            until_shown(server, site, b"Location: SIP/1\r\n", CAUGHT_UP)
-        shown(server)
-        server.stop()
+def remove_blank(folder, told):
+    """Removes the files of a store that was not made whole, as docs/operation.md says: a server has refused it, and it has no table."""
+    site = next((it for it in range(2) if told in told_of(folder, it, "no store")), None)
+    need(site is not None and not tables_of(folder, site), f"a server that starts again says {told!r}")
+    for name in files_of(folder, site):
+        os.remove(f"{folder}/{name}")
+
+
+def starts_again(folder, is_served):
+    """A server one of whose allocations was refused starts again with the files that it leaves, and has what it has answered. Where it has not
+    served yet it may leave a store without a table."""
+    for _ in range(1 if is_served else 3):
+        with stored(folder) as server:
+            if server.printed != server.lines():
+                need(not is_served, "a server that has served doesn't start again")
+                remove_blank(folder, server.stop())
+                continue
+            for site in range(2) if is_served else []:
+                until_shown(server, site, b"Location: SIP/1\r\n", CAUGHT_UP)
+            shown(server)
+            server.stop()
+            return
+    need(False, "a server doesn't start with the files that it left")
 
 
 def end_refused(room, library, number):
@@ -637,7 +652,10 @@ def end_refused(room, library, number):
         "ended": status == 1 and len(others) == 1 and others[0] in texts,
     }
     need(is_right[how], f"where allocation {number} is refused a server has {how}, its status is {status}, and it logs {told!r}")
-    starts_again(folder, number, status is None)
+    try:
+        starts_again(folder, how == "served" or server.printed == server.lines())
+    except Failed as why:
+        raise Failed(f"where allocation {number} was refused, and the server has {how}: {why}") from None
     shutil.rmtree(folder)
     return int(read(counted)), how
 
