@@ -12,7 +12,7 @@ import tempfile
 import time
 
 from program_tests import Failed
-from server_tests import BUILT, PATIENCE, free_ports, need, shown
+from server_tests import BUILT, free_ports, need, shown
 from site_link_tests import Site
 from store_tests import members
 
@@ -26,11 +26,7 @@ def links_up(sites, number):
     ends = time.monotonic() + EQUAL
     while sum(map(len, found.values())) < number * (number - 1):
         for it in sites:
-            it.read_log(lambda _: True)
-            os.set_blocking(it.process.stderr.fileno(), False)
-            with contextlib.suppress(BlockingIOError):
-                it.logged += os.read(it.process.stderr.fileno(), 65_536)
-            found[it.number] |= set(re.findall(rb"link to site (\d+) at \S+: up", it.logged))
+            found[it.number] |= set(re.findall(rb"link to site (\d+) at \S+: up", it.log_so_far()))
         need(time.monotonic() < ends, f"{sum(map(len, found.values())):,} links are up")
         time.sleep(0.1)
     return sum(map(len, found.values()))
@@ -67,7 +63,7 @@ def run(number):
         sites[0].add("SIP/one")
         print(f"one more add: all show the same after {until_equal(sites, number + 1):.2f} s", flush=True)
         # The wholes of the last adds are sent within 1.5 seconds a link.
-        time.sleep(1.5 * number + 5 if number < 16 else PATIENCE * 5)
+        time.sleep(1.5 * number + 5)
         before, begun = [it.seconds() for it in sites], time.monotonic()
         time.sleep(IDLE)
         passed = time.monotonic() - begun

@@ -32,8 +32,8 @@ from store_tests import SOME_ALLOCATIONS, Owner, Working, check_words, main, mem
 # after a start; and to refuse.
 SHARED = "correct horse battery staple 123"
 EQUAL, HEALED, RELAYED, RESTARTED, REFUSED = 2, 5, 5, 3, 1
-# How many bytes a second a slow line carries, and how many a site sends at most before they are acknowledged.
-SLOW, WINDOW = 30_000, 262_144
+# How many bytes a second a slow line carries, and how many seconds it may take to show news behind any number of changes.
+SLOW, NEWS = 30_000, 30
 QUEUES = ("sales", "support")
 # Why a site ends of whose number others have frames that it hasn't made.
 NOT_MINE = "another site has frames under this site's number that this site has not made"
@@ -95,10 +95,15 @@ class Site(Server):
                 self.logged += os.read(self.process.stderr.fileno(), 65_536)
         need(len(pattern.findall(self.logged)) == 1, f"site {self.number} logs {text!r} more than once: {self.logged!r}")
 
+    def log_so_far(self):
+        """What was logged so far."""
+        while select.select([self.process.stderr], [], [], 0)[0] and (piece := os.read(self.process.stderr.fileno(), 65_536)):
+            self.logged += piece
+        return self.logged
+
     def forget_log(self):
-        """Reads what was logged so far, and forgets it."""
-        while select.select([self.process.stderr], [], [], 0)[0] and os.read(self.process.stderr.fileno(), 65_536):
-            pass
+        """Forgets what was logged so far."""
+        self.log_so_far()
         self.logged = b""
 
 
@@ -284,7 +289,7 @@ def until_it_rests(site):
 
 
 def three_sites():
-    """Three sites show the same soon after an add at each. An ask is answered soon meanwhile, and idle sites rest."""
+    """Three sites show the same soon after an add at each, each logs its links, and idle sites rest."""
     with tempfile.TemporaryDirectory() as room, Mesh(room) as mesh:
         for number, it in mesh.sites.items():
             it.add(f"SIP/{number}")
@@ -382,9 +387,10 @@ def news_over_a_slow_line(number=500, changes=6_000):
             slowest, turns = max(slowest, change_members(first, changes, number)), turns + changes
         first.add("SIP/news")
         started = time.monotonic()
-        until_shown(second, 0, b"Location: SIP/news\r\n", 60)
+        # What is under way, and a whole or what came behind it.
+        until_shown(second, 0, b"Location: SIP/news\r\n", NEWS)
         seconds, carried = time.monotonic() - started, mesh.proxies[0, 1].carried - carried
-        need(all(b": down: " not in it.read_log(lambda _: True) for it in mesh.sites.values()), "a slow link falls")
+        need(all(b": down: " not in it.log_so_far() for it in mesh.sites.values()), "a slow link falls")
         need(slowest < 0.5, f"beside a slow line an ask takes {slowest:.3f} s")
         for it in mesh.proxies.values():
             it.rate = None
