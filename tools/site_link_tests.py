@@ -24,7 +24,7 @@ import time
 
 from program_tests import NO_COMPILER, Failed, check, compiled_refusal, read
 from server_tests import (
-    BUILT, CAUGHT_UP, GREETING, LITTLE, PATIENCE, SECRET, SETTLED, TRIES, USER, Client, Server, free_ports, has_ipv6, need, shown, until_shown,
+    BUILT, LITTLE, PATIENCE, SECRET, TRIES, USER, Client, Server, free_ports, has_ipv6, need, shown, until_shown,
 )
 from store_tests import SOME_ALLOCATIONS, Owner, Working, check_words, main, members, some_of, tables_of
 
