@@ -36,7 +36,7 @@ EQUAL, HEALED, RELAYED, RESTARTED, REFUSED = 2, 5, 5, 3, 1
 SLOW, NEWS = 30_000, 30
 QUEUES = ("sales", "support")
 # Why a site ends of whose number others have frames that it hasn't made.
-NOT_MINE = "another site has frames under this site's number that this site has not made"
+NOT_MINE = "rolled back: another site has frames under this site's number that this site has not made"
 # How a connection is ended with a reset.
 RESET = struct.pack("ii", 1, 0)
 # The bytes of a beat with its tag.
@@ -795,7 +795,7 @@ def sites_that_end():
         mesh.until_equal(4, RESTARTED)
         mesh.sites[2].stop()
         copied_back(room, 2, first)
-        took.append(ends_by_itself(Site(room, 2, mesh.links[2], peers, mesh.stores[2]), "the store is an older copy"))
+        took.append(ends_by_itself(Site(room, 2, mesh.links[2], peers, mesh.stores[2]), "rolled back: the store is an older copy"))
         del mesh.sites[2]
         mesh.sites[0].add("SIP/more")
         mesh.until_equal(5, EQUAL)
