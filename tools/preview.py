@@ -1,4 +1,4 @@
-"""Runs the program queue_sites without any proof, about a minute after the start:
+"""Runs the program queue_sites without any proof, two to three minutes after the start:
 
     ./queue_sites preview [--seconds N] WORDS..
 
@@ -32,13 +32,13 @@ from crates import folder
 
 USAGE = """Usage: queue_sites preview [--seconds N] WORDS..
 
-Runs `queue_sites WORDS..` without any proof, about a minute after the start, for at most N seconds.
-N is 1 to 86400; where it is not given 600 of `serve` and `site`, else 60. Name files by their whole
-paths.
+Runs `queue_sites WORDS..` without any proof, two to three minutes after the start, for at most N
+seconds. N is 1 to 86400; where it is not given 600 of `serve` and `site`, else 60. Name files by
+their whole paths.
 Example: queue_sites preview serve 2 5038 admin s3 sales"""
 NOTE = (
     "queue_sites: preview: nothing is proved in this run; its output comes once it is compiled,"
-    " in about a minute; then it runs for at most {} seconds"
+    " in two to three minutes; then it runs for at most {} seconds"
 )
 MOST_SECONDS = 86_400
 LONGEST_INPUT = 16_777_217  # a byte more than a script may have
