@@ -1,6 +1,6 @@
 //! One site that is linked to others.
-ghost use Rattle.std.specs.Prelude.{◌≡◌, ◌↔◌, ◌≤◌, [], IfErr, IfOk, IsErrOf, OnOk, false, length, true};
-ghost use Rattle.std.specs.Prelude.{vec_len};
+ghost use Rattle.std.specs.Prelude.{◌≡◌, ◌↔◌, ◌≤◌, [], IfErr, IfOk, IsErrOf, IsTrue, OnOk, false};
+ghost use Rattle.std.specs.Prelude.{length, map, string_bytes, true, vec_len};
 ghost use Rattle.std.specs.Io.KnownBytes.{Appends};
 ghost use Rattle.std.specs.declared.net.socket_addr.SocketAddr.{SocketAddr};
 ghost use Rattle.replica.specs.Deeds.{IsNew};
@@ -37,7 +37,14 @@ fn linked_file<D: StoreInFile, R: Wait>(
     ensures begun { IfOk result (λ it. IsSameSite (D.begun it.0.store) it.0.replica) }
     ensures holds { IfOk result (λ it. D.holds it.0.store []) }
     ensures keeps { IfOk result (λ it. D.keeps it.0.store []) }
+    ensures kept { IfOk result (λ it. IsTrue place.entry.keeps → D.keeps_rows it.0.store) }
+    ensures key { IfOk result (λ it. it.1.key ≡ request.now.key.now) }
+    // The site's card is that of its store.
+    ensures store { IfOk result (λ it. it.1.store ≡ D.name it.0.store) }
+    ensures starts { IfOk result (λ it. it.1.starts ≡ D.starts it.0.store) }
     ensures peers { IfOk result (λ it. vec_len it.1.peers ≡ length request.now.peers.now) }
+    ensures texts { IfOk result (λ it.
+        map string_bytes it.1.peers.items ≡ map string_bytes request.now.peers.now) }
     ensures fault { IfErr result IsRefusal }
 {
     let file = match open_site(rt, host, place, request.site, request.list, events) {
@@ -114,7 +121,7 @@ where
 ///
 /// Errors, in order: 1 `Store`, with the path and the cause, and `Memory`; the log is as it was; 2 `Linked` with `NoAddress`, if the system
 /// doesn't say where the site listens; 3 `Write`, if the log failed, or took no bytes; 4 `Linked`, with the errors of
-/// `serve_stored_linked_site`.
+/// `serve_stored_linked_site`. `Memory` may stand in place of 3.
 pub fn serve_linked_file<
     R: Net<Listener = TcpListener, Stream = TcpStream>
         + Threads
@@ -183,7 +190,11 @@ fn new_site<R: RandomSource>(
     ensures site { IfOk result (λ it. it.0.site ≡ request.now.site) }
     ensures names { IfOk result (λ it. it.0.names ≡ request.now.list.now) }
     ensures new { IfOk result (λ it. IsNew it.0) }
+    ensures key { IfOk result (λ it. it.1.key ≡ request.now.key.now) }
+    ensures starts { IfOk result (λ it. it.1.starts ≡ 1) }
     ensures peers { IfOk result (λ it. vec_len it.1.peers ≡ length request.now.peers.now) }
+    ensures texts { IfOk result (λ it.
+        map string_bytes it.1.peers.items ≡ map string_bytes request.now.peers.now) }
 {
     let links = match links_without_store(rt, alloc, request) {
         Ok(links) => links,
@@ -247,8 +258,8 @@ fn serve_new<
 /// Serves one new site, which stores nothing, until it ends, as `serve_linked_site` of `linked_site` does, and returns why it has ended. The
 /// log has the lines of `serve_linked_file`. The 16 bytes in place of a store's name are random.
 ///
-/// Errors, in order: 1 `Linked` with `NoRandom` and `Memory`; the log is as it was; 2 `Linked` with `NoAddress`; 3 `Write`; 4 `Linked`, with
-/// the errors of `serve_linked_site`. `Memory` may stand in place of 2 and 3.
+/// Errors, in order: 1 `Linked` with `Memory` or `NoRandom`; the log is as it was; 2 `Linked` with `NoAddress`; 3 `Write`; 4 `Linked`, with
+/// the errors of `serve_linked_site`. `Memory` may stand in place of 3.
 pub fn serve_volatile<
     R: Net<Listener = TcpListener, Stream = TcpStream>
         + Threads

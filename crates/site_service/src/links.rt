@@ -1,5 +1,5 @@
 //! How a site is linked.
-ghost use Rattle.std.specs.Prelude.{◌≡◌, ◌≤◌, IfOk, length, vec_len};
+ghost use Rattle.std.specs.Prelude.{◌≡◌, ◌≤◌, IfOk, length, map, string_bytes, vec_len};
 ghost use Rattle.linked_site.specs.declared.link_settings.TheConstants.{MOST_PEERS};
 
 use dots::{Memory, SiteId};
@@ -29,7 +29,9 @@ pub struct LinkedRequest<'a> {
 
 // Copies of the addresses of peers.
 fn peers_of(alloc: Global, addresses: &[String]) -> Result<Vec<String>, Memory>
-    ensures { IfOk result (λ peers. vec_len peers ≡ length addresses.now) }
+    ensures number { IfOk result (λ peers. vec_len peers ≡ length addresses.now) }
+    ensures texts { IfOk result (λ peers.
+        map string_bytes peers.items ≡ map string_bytes addresses.now) }
 {
     let mut peers = Vec::new(alloc);
     for address in addresses {
@@ -49,6 +51,8 @@ pub(crate) fn links_of(
     ensures store { IfOk result (λ links. links.store ≡ store) }
     ensures starts { IfOk result (λ links. links.starts ≡ starts) }
     ensures peers { IfOk result (λ links. vec_len links.peers ≡ length request.now.peers.now) }
+    ensures texts { IfOk result (λ links.
+        map string_bytes links.peers.items ≡ map string_bytes request.now.peers.now) }
 {
     let peers = peers_of(alloc, request.peers)?;
     Ok(LinkSettings {
@@ -68,6 +72,8 @@ pub(crate) fn links_without_store<R: RandomSource>(
     ensures key { IfOk result (λ links. links.key ≡ request.now.key.now) }
     ensures starts { IfOk result (λ links. links.starts ≡ 1) }
     ensures peers { IfOk result (λ links. vec_len links.peers ≡ length request.now.peers.now) }
+    ensures texts { IfOk result (λ links.
+        map string_bytes links.peers.items ≡ map string_bytes request.now.peers.now) }
 {
     match peers_of(alloc, request.peers) {
         Ok(peers) => { LinkSettings::without_store(rt, Key::new(*request.key.as_bytes()), peers) }

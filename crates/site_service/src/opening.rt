@@ -1,5 +1,5 @@
 //! Opens the stores of sites.
-ghost use Rattle.std.specs.Prelude.{◌≡◌, [], IfErr, IfOk};
+ghost use Rattle.std.specs.Prelude.{◌≡◌, [], IfErr, IfOk, IsTrue, string_bytes};
 ghost use Rattle.replica.specs.Site.{IsSameSite};
 ghost use Rattle.site_service.specs.Refusals.{IsRefusal};
 
@@ -25,6 +25,8 @@ fn log_new<R: Wait>(rt: &R, alloc: Global, path: &str, site: SiteId, events: &Ev
 fn refusal(alloc: Global, path: &str, fault: SiteFileFault) -> ServiceFault
     ensures kind { IsRefusal result }
     ensures cause { (at : _) (why : _) → result ≡ ServiceFault.Store at why → why ≡ fault }
+    ensures path { (at : _) (why : _) → result ≡ ServiceFault.Store at why
+        → string_bytes at ≡ path.now }
 {
     if let SiteFileFault::Open(OpenFault::Memory) = fault {
         return ServiceFault::Memory;
@@ -49,6 +51,9 @@ pub(crate) fn open_site<D: StoreInFile, R: Wait>(
     ensures begun { IfOk result (λ it. IsSameSite (D.begun it.store) it.replica) }
     ensures holds { IfOk result (λ it. D.holds it.store []) }
     ensures keeps { IfOk result (λ it. D.keeps it.store []) }
+    ensures name { IfOk result (λ it. it.name ≡ D.name it.store) }
+    ensures starts { IfOk result (λ it. it.starts ≡ D.starts it.store) }
+    ensures kept { IfOk result (λ it. IsTrue place.entry.keeps → D.keeps_rows it.store) }
     ensures fault { IfErr result IsRefusal }
 {
     match D::open_site(host, place, site, list, MOST_RESTORED_STEPS) {

@@ -1,7 +1,7 @@
 //! The sites of a server whose stores are files.
 ghost use Rattle.std.specs.List.{All};
 ghost use Rattle.std.specs.Prelude.{◌≡◌, ◌↔◌, ◌+◌, ◌<◌, ◌≤◌, ℕ, [], IfErr, IfOk, IsErrOf, OnErr};
-ghost use Rattle.std.specs.Prelude.{OnOk, false, true, vec_len};
+ghost use Rattle.std.specs.Prelude.{IsTrue, OnOk, false, true, vec_len};
 ghost use Rattle.std.specs.Io.KnownBytes.{Appends};
 ghost use Rattle.std.specs.declared.io.Error.{Error};
 ghost use Rattle.ami_text.specs.Devices.{HasTaken};
@@ -43,6 +43,7 @@ fn start_of<D: StoreInFile, R: Wait>(
     ensures begun { IfOk result (λ it. IsSameSite (D.begun it.store) it.replica) }
     ensures holds { IfOk result (λ it. D.holds it.store []) }
     ensures keeps { IfOk result (λ it. D.keeps it.store []) }
+    ensures kept { IfOk result (λ it. IsTrue folder.entry.keeps → D.keeps_rows it.store) }
     ensures fault { IfErr result IsRefusal }
 {
     let Ok(path) = file_of_site(host.alloc(), folder.path, site) else {
