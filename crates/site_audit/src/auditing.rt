@@ -1,13 +1,15 @@
 //! An audit of the journals of all sites.
-ghost use Rattle.std.specs.Prelude.{◌≡◌, ◌↔◌, ◌<◌, ◌≤◌, ℕ, [], List, Err, IfNone, IfOk, IfSome, IsOkAnd};
+ghost use Rattle.std.specs.Prelude.{◌≡◌, ◌≢◌, ◌↔◌, ◌<◌, ◌≤◌, ℕ, [], List, Err, IfNone, IfOk, IfSome, IsOkAnd};
 ghost use Rattle.std.specs.Prelude.{IsTrue, None, Some, length, slice_get};
 ghost use Rattle.site_journal.specs.Journals.{IsJournal, JournalState};
 ghost use Rattle.replica.specs.Deeds.{IsNew};
 ghost use Rattle.sites_world.specs.declared.event.Event.{Event};
 ghost use Rattle.site_audit.specs.Ending.{HasAllSteps, IsLeastLeft};
+ghost use Rattle.site_audit.specs.Replays.{CannotGoOn, IsReplay};
 ghost use Rattle.site_audit.specs.Runs.{AreSites, IsFirstStale, IsFromNew, IsRun, IsStuck};
 
 use crate::AuditFault;
+use crate::explanation::Explanation;
 use crate::replay::{Replay, search};
 use replica::Replica;
 use site_journal::Journaled;
@@ -89,6 +91,61 @@ fn least_left(journals: &[Journaled], at: &[usize]) -> Option<usize>
     None
 }
 
+// How far a search has come, where no site can go on.
+fn explained(journals: &[Journaled], replay: Replay<'_>) -> Explanation
+    requires kept { IsReplay journals.now replay }
+    requires none { (site : ℕ) → site < length journals.now
+        → CannotGoOn journals.now replay site }
+    requires few { length journals.now ≤ 64 }
+    ensures run { result.stuck ≡ None → IsRun journals.now result.events.items }
+    ensures stuck { (site position : ℕ) → result.stuck ≡ Some (site, position)
+        → IsStuck journals.now site position result.events.items }
+{
+    let stuck = match least_left(journals, replay.at.as_slice()) {
+        Some(site) => Some((site as u16, replay.at[site] as u64)),
+        None => None,
+    };
+    Explanation {
+        events: replay.events,
+        stuck,
+    }
+}
+
+/// The list of events that explains journals, or as much of it as there is. The journals are those of the sites 0, 1, .. in order, and
+/// fresh: each began from a new replica and still has all its steps. If the events are one run, they give each site exactly its
+/// journal, as those of `audit` do. Otherwise they are stuck: they give one site its steps before a position and not all, each lesser
+/// site all of its own, each other site its first ones, and no further event gives any site its next. No journals give no events.
+///
+/// Errors, in order: 1 `WrongSites`, exactly where the journals aren't those of the sites 0, 1, .. in order, or have two lists of
+/// queues; 2 `NotFresh`, exactly where a journal isn't fresh, with the first such site; 3 `Memory`. Never `NoRun`.
+pub fn explain(alloc: Global, journals: &[Journaled]) -> Result<Explanation, AuditFault>
+    ensures run { IfOk result (λ it. it.stuck ≡ None → IsRun journals.now it.events.items) }
+    ensures stuck { IfOk result (λ it. (site position : ℕ) → it.stuck ≡ Some (site, position)
+        → IsStuck journals.now site position it.events.items) }
+    ensures none { journals.now ≡ []
+        → IsOkAnd result (λ it. (it.events.items ≡ []) × (it.stuck ≡ None)) }
+    ensures wrong_sites { (result ≡ Err AuditFault.WrongSites) ↔ (AreSites journals.now → ⊥) }
+    ensures not_fresh { (site : ℕ) → (result ≡ Err (AuditFault.NotFresh site))
+        ↔ (AreSites journals.now × IsFirstStale journals.now site) }
+    ensures explained { (site position : ℕ) → result ≢ Err (AuditFault.NoRun site position) }
+{
+    if journals.is_empty() {
+        return Ok(Explanation {
+            events: Vec::new(alloc),
+            stuck: None,
+        });
+    }
+    if !are_sites(journals) {
+        return Err(AuditFault::WrongSites);
+    }
+    if let Some(site) = first_stale(journals) {
+        return Err(AuditFault::NotFresh(site as u16));
+    }
+    let mut replay = Replay::begin(alloc, journals.len())?;
+    search(journals, &mut replay)?;
+    Ok(explained(journals, replay))
+}
+
 /// One list of events that gives each site exactly its journal. The journals are those of the sites 0, 1, .. in order, and fresh:
 /// each began from a new replica and still has all its steps. In the world of operations each ask is answered as the journal says,
 /// and each frame that is made or taken is the one that the bytes there spell. After the last event each site knows what its
@@ -109,19 +166,12 @@ pub fn audit(alloc: Global, journals: &[Journaled]) -> Result<Vec<Event>, AuditF
     ensures no_run { (site position : ℕ) → result ≡ Err (AuditFault.NoRun site position)
         → (events : List Event) × IsStuck journals.now site position events }
 {
-    if journals.is_empty() {
-        return Ok(Vec::new(alloc));
-    }
-    if !are_sites(journals) {
-        return Err(AuditFault::WrongSites);
-    }
-    if let Some(site) = first_stale(journals) {
-        return Err(AuditFault::NotFresh(site as u16));
-    }
-    let mut replay = Replay::begin(alloc, journals.len())?;
-    search(journals, &mut replay)?;
-    match least_left(journals, replay.at.as_slice()) {
-        Some(site) => Err(AuditFault::NoRun(site as u16, replay.at[site] as u64)),
-        None => Ok(replay.events),
+    let Explanation { events, stuck } = explain(alloc, journals)?;
+    match stuck {
+        Some((site, position)) => {
+            drop(events);
+            Err(AuditFault::NoRun(site, position))
+        }
+        None => Ok(events),
     }
 }

@@ -7,11 +7,13 @@
 
 mod audit_fault;
 mod auditing;
+mod explanation;
 pub mod laws;
 mod pool;
 mod replay;
 
 pub use audit_fault::AuditFault;
-pub use auditing::audit;
+pub use auditing::{audit, explain};
 pub use dots::Memory;
+pub use explanation::Explanation;
 pub use sites_world::Event;
