@@ -27,7 +27,7 @@ queue_field (Some queue) = (codes "Queue", queue) ∷ []
 
 -- the value of a field that says yes or no
 abbrev pub yes_or_no : Bool → List ℕ
-yes_or_no yes = if yes then codes "yes" else codes "no"
+yes_or_no says = if says then codes "yes" else codes "no"
 
 -- the fields that a command's message has behind its action; a counted call has no message
 abbrev pub command_fields : Command → Fields

@@ -18,7 +18,7 @@ use Rattle.status_report.specs.declared.asks.Ask.TheVariants as ask
 
 -- the reply to a message of this action without ActionID, by whether its `Paused` says yes, with this answer
 abbrev pub reply_to : Action → Bool → Answer → List ℕ
-reply_to action yes answer = answer_reply (record { action = action; says_yes = yes; id = [] }) answer
+reply_to action paused answer = answer_reply (record { action = action; says_yes = paused; id = [] }) answer
 
 -- a site's answer to a command, as the line of the command gives it
 abbrev pub answer_shown : Command → Answer → List ℕ

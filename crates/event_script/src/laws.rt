@@ -10,6 +10,8 @@ ghost use Rattle.scripts.specs.Script.{IsScriptRun};
 ghost use Rattle.event_script.specs.Lines.{HasLimits, is_unsaid, script_of};
 ghost use Rattle.event_script.specs.Shown.{ShowsJournals};
 
+use scripts::laws::script_has_one_text;
+
 /// The script of a list of events that is one run of journals shows what the journals say, if lines say all events: run over as many
 /// sites with the queues of the journals, it gives for each event what the next step of its site says. That is for an ask the
 /// site's stored answer. No line is left out, none isn't understood, and each site's steps are shown to the last.
@@ -20,4 +22,6 @@ pub fn a_script_of_a_run_shows_what_the_journals_say()
         → IsScriptRun (listed_place (length journals) (names_in journals))
         (Some (script_of events)) (Some []) (Some before) (Some after) unknown
         → (unknown ≡ 0) × ShowsJournals journals events before after }
-{}
+{
+    script_has_one_text();
+}

@@ -73,7 +73,11 @@ fn push_yes_or_no(line: &mut Vec<u8>, name: &[u8], yes: bool) -> Result<(), Memo
     ensures { OnOk result (line.new.items
         ≡ line.old.items ++ field_text (name.now, yes_or_no yes)) }
 {
-    push_part(line, name, if yes { b"yes" } else { b"no" })
+    if yes {
+        push_part(line, name, b"yes")
+    } else {
+        push_part(line, name, b"no")
+    }
 }
 
 // Appends the words for a message of this action, up to its first field.

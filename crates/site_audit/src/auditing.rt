@@ -101,13 +101,18 @@ fn explained(journals: &[Journaled], replay: Replay<'_>) -> Explanation
     ensures stuck { (site position : ℕ) → result.stuck ≡ Some (site, position)
         → IsStuck journals.now site position result.events.items }
 {
-    let stuck = match least_left(journals, replay.at.as_slice()) {
-        Some(site) => Some((site as u16, replay.at[site] as u64)),
-        None => None,
-    };
-    Explanation {
-        events: replay.events,
-        stuck,
+    match least_left(journals, replay.at.as_slice()) {
+        Some(site) => {
+            let position = replay.at[site] as u64;
+            Explanation {
+                events: replay.events,
+                stuck: Some((site as u16, position)),
+            }
+        }
+        None => Explanation {
+            events: replay.events,
+            stuck: None,
+        },
     }
 }
 

@@ -9,3 +9,33 @@ use Rattle.site_audit.proofs.auditing.explained.Goals as goal
 pub least_left-requires-clause-within : goal.least_left-requires-clause-within
 least_left-requires-clause-within c = λ site n j known here.
     (c.requires.kept.is.each site n j known (ap (λ xs. slice_get xs site) (sym c.as_slice.ensures.value) ∙ here)).given.within
+
+pub overflow_cast-result-in-Some : goal.overflow_cast-result-in-Some
+overflow_cast-result-in-Some c =
+    let a = slice_get_within c.args.journals.now c.in-Some.site _ c.in-Some.ensures.left.journal in
+    let b = c.requires.few in
+    search (rules, a, b)
+
+pub index-requires : goal.index-requires
+index-requires c =
+    let a = slice_get_within c.as_slice.result.now c.in-Some.site _ c.in-Some.ensures.left.here in
+    let b = c.as_slice.ensures.len in
+    omega (arith, a, b)
+
+-- the events are stuck there
+pub returns-in-Some-clause-stuck : goal.returns-in-Some-clause-stuck
+returns-in-Some-clause-stuck c = λ site position told.
+    let least : IsLeastLeft c.args.journals.now c.args.replay.at.items c.in-Some.site =
+    subst (λ xs. IsLeastLeft c.args.journals.now xs c.in-Some.site) c.as_slice.ensures.value c.in-Some.ensures.left in
+    let here : slice_get c.args.replay.at.items c.in-Some.site ≡ Some c.index.result.now =
+    slice_get_read c.args.replay.at.items (length c.args.replay.at.items) c.in-Some.site c.index.result.now refl (slice_get_within c.args.replay.at.items c.in-Some.site _ least.here) c.index.ensures in
+    let s : c.in-Some.site ≡ site = cc in
+    let p : c.index.result.now ≡ position = cc in
+    subst (λ n. IsStuck c.args.journals.now n position c.args.replay.events.items) s
+        (subst (λ n. IsStuck c.args.journals.now c.in-Some.site n c.args.replay.events.items) p
+        (ends_stuck c.args.journals.now c.args.replay c.in-Some.site c.index.result.now c.requires.kept c.requires.none least here))
+
+-- each site has all its steps
+pub returns-in-None-clause-run : goal.returns-in-None-clause-run
+returns-in-None-clause-run c = λ told.
+    ends_as_run c.args.journals.now c.args.replay c.requires.kept (subst (λ xs. (site : ℕ) → HasAllSteps c.args.journals.now xs site) c.as_slice.ensures.value c.in-None.ensures.none)
