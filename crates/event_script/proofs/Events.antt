@@ -42,7 +42,7 @@ use Rattle.event_script.proofs.Saying.{AreFields, command_fields_are, few_fields
 -- ---- the pool
 
 -- the place that an outcome tells, if it made a frame
-told_place : Outcome → Option ℕ
+abbrev told_place : Outcome → Option ℕ
 told_place (outcome.Cut (Ok place)) = place
 told_place other = None
 

@@ -5,4 +5,5 @@ mod Reactions
 mod Saying
 mod Events
 mod Shows
-mod Writing
+mod Written
+mod Wording

@@ -23,7 +23,7 @@ use Rattle.event_script.proofs.Events.{GivesLine, IsSaid, event_gives, lines_are
 -- ---- events that lines say
 
 -- how many events no line says
-unsaid_in : List Event → ℕ
+abbrev unsaid_in : List Event → ℕ
 unsaid_in [] = 0
 unsaid_in (e ∷ es) = cond (is_unsaid e) (1 + unsaid_in es) (unsaid_in es)
 

@@ -4,6 +4,7 @@ use Rattle.std.specs.List.{flat_map, list_all, list_any}
 use Rattle.ami_session.specs.FieldValues.{Fields}
 use Rattle.ami_text.specs.MessageFields.{NameAndValue, is_blank}
 use Rattle.ask_code.specs.Asks.{IsCommand}
+use Rattle.dots.specs.declared.label.Label.{Label}
 use Rattle.dots.specs.Values.{IsSite}
 use Rattle.replica.specs.declared.command.Command.{Command}
 use Rattle.replica.specs.declared.command.Command.TheVariants.{Add, Remove, Pause, Penalty, RingInUse, Completed, Abandoned}
@@ -29,11 +30,14 @@ queue_field (Some queue) = (codes "Queue", queue) ∷ []
 abbrev pub yes_or_no : Bool → List ℕ
 yes_or_no says = if says then codes "yes" else codes "no"
 
+-- the fields of a label
+abbrev pub label_fields : Label → Fields
+label_fields label = field_if_any (codes "MemberName") label.name ++ field_if_any (codes "StateInterface") label.state
+
 -- the fields that a command's message has behind its action; a counted call has no message
 abbrev pub command_fields : Command → Fields
 command_fields (Add queue interface penalty paused label) =
-    (codes "Queue", queue) ∷ (codes "Interface", interface) ∷ (codes "Penalty", decimal penalty) ∷ (codes "Paused", yes_or_no paused)
-    ∷ field_if_any (codes "MemberName") label.name ++ field_if_any (codes "StateInterface") label.state
+    (codes "Queue", queue) ∷ (codes "Interface", interface) ∷ (codes "Penalty", decimal penalty) ∷ (codes "Paused", yes_or_no paused) ∷ label_fields label
 command_fields (Remove queue interface) = (codes "Queue", queue) ∷ (codes "Interface", interface) ∷ []
 command_fields (Pause queue interface pause) =
     queue_field queue ++ (codes "Interface", interface) ∷ (codes "Paused", yes_or_no pause.paused) ∷ field_if_any (codes "Reason") pause.reason

@@ -1,5 +1,5 @@
 //! Laws of the script of events. The functions have no body but other laws: their contracts are the laws.
-ghost use Rattle.std.specs.Prelude.{◌≡◌, ◌≤◌, ◌×◌, ℕ, [], List, Option, Some, count_by, length};
+ghost use Rattle.std.specs.Prelude.{◌≡◌, ◌≤◌, ℕ, [], List, Option, Some, count_by, length};
 ghost use Rattle.std.specs.List.{All};
 ghost use Rattle.dots.specs.declared.limits.TheConstants.{SITES};
 ghost use Rattle.site_audit.specs.Runs.{IsRun, names_in};

@@ -1,11 +1,12 @@
 //! The line of a script for an event.
 ghost use Rattle.std.specs.Prelude.{◌≡◌, ◌++◌, [], codes, decimal, IfOk, IfSome, OnOk};
 ghost use Rattle.std.specs.List.{flat_map};
-ghost use Rattle.dots.specs.Values.{IsName, IsPenalty, IsSite};
+ghost use Rattle.dots.specs.Values.{IsName, IsPenalty, IsSite, IsText};
+ghost use Rattle.dots.specs.WithinLimits.{IsLabel};
 ghost use Rattle.ask_code.specs.Asks.{IsCommand};
 ghost use Rattle.replica.specs.declared.command.Command.{Command};
 ghost use Rattle.event_script.specs.Lines.{HasLimits, can_say, command_words, comment_mark};
-ghost use Rattle.event_script.specs.Lines.{event_line, field_if_any, field_text, message_words};
+ghost use Rattle.event_script.specs.Lines.{event_line, field_if_any, field_text, label_fields};
 ghost use Rattle.event_script.specs.Lines.{queue_field, yes_or_no};
 
 use crate::plain::can_say;
@@ -28,13 +29,26 @@ fn push_part(line: &mut Vec<u8>, name: &[u8], value: &[u8]) -> Result<(), Memory
 
 // Appends a field behind a bar, if its value has a byte.
 fn push_part_if_any(line: &mut Vec<u8>, name: &[u8], value: &Text80) -> Result<(), Memory>
-    ensures { OnOk result (line.new.items ≡ line.old.items
+    ensures text { OnOk result (line.new.items ≡ line.old.items
         ++ flat_map field_text (field_if_any name.now value.now)) }
+    ensures limit { OnOk result (IsText value.now) }
 {
-    if value.is_empty() {
+    let bytes = value.as_bytes();
+    if bytes.is_empty() {
         return Ok(());
     }
-    push_part(line, name, value.as_bytes())
+    push_part(line, name, bytes)
+}
+
+// Appends the fields of a label behind bars.
+#[tactic(auto, using(crate::proofs::Wording::label_text))]
+fn push_label(line: &mut Vec<u8>, label: &Label) -> Result<(), Memory>
+    ensures text { OnOk result (line.new.items ≡ line.old.items
+        ++ flat_map field_text (label_fields label.now)) }
+    ensures limit { OnOk result (IsLabel label.now) }
+{
+    push_part_if_any(line, b"MemberName", &label.name)?;
+    push_part_if_any(line, b"StateInterface", &label.state)
 }
 
 // Appends the field of a queue behind a bar, if there is a queue.
@@ -82,7 +96,8 @@ fn push_yes_or_no(line: &mut Vec<u8>, name: &[u8], yes: bool) -> Result<(), Memo
 
 // Appends the words for a message of this action, up to its first field.
 fn push_action(line: &mut Vec<u8>, action: &[u8]) -> Result<(), Memory>
-    ensures { OnOk result (line.new.items ≡ line.old.items ++ message_words action.now []) }
+    ensures { OnOk result (line.new.items
+        ≡ line.old.items ++ (codes "ami Action: " ++ action.now)) }
 {
     line.extend_from_slice(b"ami Action: ")?;
     line.extend_from_slice(action)
@@ -107,8 +122,18 @@ fn push_add(
     push_interface(line, interface)?;
     push_penalty(line, penalty)?;
     push_yes_or_no(line, b"Paused", paused)?;
-    push_part_if_any(line, b"MemberName", &label.name)?;
-    push_part_if_any(line, b"StateInterface", &label.state)
+    push_label(line, label)
+}
+
+// Appends the words for a remove.
+fn push_remove(line: &mut Vec<u8>, queue: &QueueName, interface: &Interface) -> Result<(), Memory>
+    ensures text { OnOk result (line.new.items ≡ line.old.items
+        ++ command_words (Command.Remove queue.now interface.now)) }
+    ensures limits { OnOk result (IsCommand (Command.Remove queue.now interface.now)) }
+{
+    push_action(line, b"QueueRemove")?;
+    push_part(line, b"Queue", queue.as_bytes())?;
+    push_interface(line, interface)
 }
 
 // Appends the words for a pause.
@@ -129,6 +154,40 @@ fn push_pause(
     push_part_if_any(line, b"Reason", pause.reason())
 }
 
+// Appends the words for a new penalty.
+fn push_new_penalty(
+    line: &mut Vec<u8>,
+    queue: &Option<QueueName>,
+    interface: &Interface,
+    penalty: Penalty,
+) -> Result<(), Memory>
+    ensures text { OnOk result (line.new.items ≡ line.old.items
+        ++ command_words (Command.Penalty queue.now interface.now penalty)) }
+    ensures limits { OnOk result (IsCommand (Command.Penalty queue.now interface.now penalty)) }
+{
+    push_action(line, b"QueuePenalty")?;
+    push_queue(line, queue)?;
+    push_interface(line, interface)?;
+    push_penalty(line, penalty)
+}
+
+// Appends the words for whether an interface is rung while its device is in use.
+fn push_ring_in_use(
+    line: &mut Vec<u8>,
+    queue: &Option<QueueName>,
+    interface: &Interface,
+    ring: bool,
+) -> Result<(), Memory>
+    ensures text { OnOk result (line.new.items ≡ line.old.items
+        ++ command_words (Command.RingInUse queue.now interface.now ring)) }
+    ensures limits { OnOk result (IsCommand (Command.RingInUse queue.now interface.now ring)) }
+{
+    push_action(line, b"QueueMemberRingInUse")?;
+    push_queue(line, queue)?;
+    push_interface(line, interface)?;
+    push_yes_or_no(line, b"RingInUse", ring)
+}
+
 // Appends the words for a command.
 fn push_command(line: &mut Vec<u8>, command: &Command) -> Result<(), Memory>
     ensures text { OnOk result (line.new.items ≡ line.old.items ++ command_words command.now) }
@@ -142,11 +201,7 @@ fn push_command(line: &mut Vec<u8>, command: &Command) -> Result<(), Memory>
             paused,
             label,
         } => push_add(line, queue, interface, *penalty, *paused, label),
-        Command::Remove { queue, interface } => {
-            push_action(line, b"QueueRemove")?;
-            push_part(line, b"Queue", queue.as_bytes())?;
-            push_interface(line, interface)
-        }
+        Command::Remove { queue, interface } => push_remove(line, queue, interface),
         Command::Pause {
             queue,
             interface,
@@ -156,22 +211,12 @@ fn push_command(line: &mut Vec<u8>, command: &Command) -> Result<(), Memory>
             queue,
             interface,
             penalty,
-        } => {
-            push_action(line, b"QueuePenalty")?;
-            push_queue(line, queue)?;
-            push_interface(line, interface)?;
-            push_penalty(line, *penalty)
-        }
+        } => push_new_penalty(line, queue, interface, *penalty),
         Command::RingInUse {
             queue,
             interface,
             ring,
-        } => {
-            push_action(line, b"QueueMemberRingInUse")?;
-            push_queue(line, queue)?;
-            push_interface(line, interface)?;
-            push_yes_or_no(line, b"RingInUse", *ring)
-        }
+        } => push_ring_in_use(line, queue, interface, *ring),
         Command::Completed { queue } => {
             line.extend_from_slice(b"completed ")?;
             line.extend_from_slice(queue.as_bytes())

@@ -40,7 +40,7 @@ fn write_event<W: Sink>(alloc: Global, writer: &mut W, event: &Event) -> Result<
 ///
 /// Errors, at the first event with one: `Memory`, before its line; `Write` if the writer fails or takes no bytes, and then a prefix
 /// of the script was written.
-#[tactic(auto, using(crate::proofs::Writing::more_written, crate::proofs::Writing::line_begun, crate::proofs::Writing::lines_begun))]
+#[tactic(auto, using(crate::proofs::Written::more_written, crate::proofs::Written::line_begun, crate::proofs::Written::lines_begun))]
 pub fn write_events<W: Sink>(
     alloc: Global,
     writer: &mut W,

@@ -1,5 +1,6 @@
 use Rattle.std.proofs.Common.{◌≡◌, ℕ, length, slice_get, Some, refl, ap, sym, ◌∙◌, subst, arith, rules}
 use Rattle.std.proofs.lemmas.Option.{slice_get_read, slice_get_within}
+use Rattle.sites_world.proofs.Lists.{one_some}
 use Rattle.site_audit.specs.Ending.{HasAllSteps, IsLeastLeft}
 use Rattle.site_audit.specs.Runs.{IsStuck}
 use Rattle.site_audit.proofs.Ends.{ends_as_run, ends_stuck}
@@ -9,12 +10,6 @@ use Rattle.site_audit.proofs.auditing.explained.Goals as goal
 pub least_left-requires-clause-within : goal.least_left-requires-clause-within
 least_left-requires-clause-within c = λ site n j known here.
     (c.requires.kept.is.each site n j known (ap (λ xs. slice_get xs site) (sym c.as_slice.ensures.value) ∙ here)).given.within
-
-pub overflow_cast-result-in-Some : goal.overflow_cast-result-in-Some
-overflow_cast-result-in-Some c =
-    let a = slice_get_within c.args.journals.now c.in-Some.site _ c.in-Some.ensures.left.journal in
-    let b = c.requires.few in
-    search (rules, a, b)
 
 pub index-requires : goal.index-requires
 index-requires c =
@@ -29,13 +24,14 @@ returns-in-Some-clause-stuck c = λ site position told.
     subst (λ xs. IsLeastLeft c.args.journals.now xs c.in-Some.site) c.as_slice.ensures.value c.in-Some.ensures.left in
     let here : slice_get c.args.replay.at.items c.in-Some.site ≡ Some c.index.result.now =
     slice_get_read c.args.replay.at.items (length c.args.replay.at.items) c.in-Some.site c.index.result.now refl (slice_get_within c.args.replay.at.items c.in-Some.site _ least.here) c.index.ensures in
-    let s : c.in-Some.site ≡ site = cc in
-    let p : c.index.result.now ≡ position = cc in
+    let both = one_some (c.in-Some.site, c.index.result.now) (site, position) told in
+    let s : c.in-Some.site ≡ site = ap (λ (x : ℕ × ℕ). x.0) both in
+    let p : c.index.result.now ≡ position = ap (λ (x : ℕ × ℕ). x.1) both in
     subst (λ n. IsStuck c.args.journals.now n position c.args.replay.events.items) s
         (subst (λ n. IsStuck c.args.journals.now c.in-Some.site n c.args.replay.events.items) p
         (ends_stuck c.args.journals.now c.args.replay c.in-Some.site c.index.result.now c.requires.kept c.requires.none least here))
 
 -- each site has all its steps
-pub returns-in-None-clause-run : goal.returns-in-None-clause-run
-returns-in-None-clause-run c = λ told.
+pub returns-clause-run : goal.returns-clause-run
+returns-clause-run c = λ told.
     ends_as_run c.args.journals.now c.args.replay c.requires.kept (subst (λ xs. (site : ℕ) → HasAllSteps c.args.journals.now xs site) c.as_slice.ensures.value c.in-None.ensures.none)

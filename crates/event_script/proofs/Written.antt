@@ -1,13 +1,15 @@
 -- What was written of the script of events.
-use Rattle.std.proofs.Common.{◌≡◌, ◌∙◌, ℕ, ◌+◌, ◌<◌, ◌++◌, List, [], ◌∷◌, length, take, drop, get_or, codes, Option, refl, sym, ap, subst, append_assoc, append-nil}
+use Rattle.std.proofs.Common.{◌≡◌, ◌∙◌, ℕ, ◌+◌, ◌<◌, ◌++◌, List, [], ◌∷◌, length, take, drop, get_or, codes, count_by, true, false, not, Option, refl, sym, ap, subst, append_assoc, append-nil}
 use Rattle.std.specs.Io.KnownBytes.{Appends}
+use Rattle.std.proofs.lemmas.List.Elements.{All-push}
+use Rattle.std.proofs.lemmas.List.Sums.{count_by_more_no, count_by_more_yes}
 use Rattle.std.specs.List.{All, flat_map}
 use Rattle.std.proofs.KnownBytes.{Appends-trans}
 use Rattle.std.proofs.lemmas.Grind.{flat_map-append}
 use Rattle.std.proofs.lemmas.List.{drop_more, take-append-drop, take_more}
 use Rattle.ami_text.specs.Devices.{HasTaken}
 use Rattle.sites_world.specs.declared.event.Event.{Event}
-use Rattle.event_script.specs.Lines.{event_line, script_of}
+use Rattle.event_script.specs.Lines.{HasLimits, can_say, event_line, is_unsaid, script_of}
 
 -- the line of an event, with its end
 abbrev pub whole_line : Event → List ℕ
@@ -52,3 +54,20 @@ lines_begun before mid after events i same first = record {
   is = ap script_of (sym (take-append-drop i events)) ∙ flat_map-append whole_line (take i events) (drop i events);
   taken = subst (λ x. Appends before x (script_of (take i events))) (sym same) first;
 }
+
+-- one event more, which a line says or none does
+pub more_said : (events : List Event) (i : ℕ) (e : Event) (n : ℕ) → i < length events → e ≡ get_or events i e → can_say e ≡ true
+    → n ≡ count_by is_unsaid (take i events) → n ≡ count_by is_unsaid (take (i + 1) events)
+more_said events i e n within is said counted =
+    counted ∙ sym (count_by_more_no is_unsaid events i e within (ap is_unsaid (sym is) ∙ ap not said))
+
+pub more_unsaid : (events : List Event) (i : ℕ) (e : Event) (n : ℕ) → i < length events → e ≡ get_or events i e → can_say e ≡ false
+    → n ≡ count_by is_unsaid (take i events) → n + 1 ≡ count_by is_unsaid (take (i + 1) events)
+more_unsaid events i e n within is said counted =
+    ap (λ m. m + 1) counted ∙ sym (count_by_more_yes is_unsaid events i e within (ap is_unsaid (sym is) ∙ ap not said))
+
+-- its values are within the limits of their types
+pub more_limits : (events : List Event) (i : ℕ) (e : Event) → i < length events → e ≡ get_or events i e → All HasLimits (take i events) → HasLimits e
+    → All HasLimits (take (i + 1) events)
+more_limits events i e within is all limits =
+    subst (All HasLimits) (sym (take_more events i e within ∙ ap (λ x. take i events ++ x ∷ []) (sym is))) (All-push HasLimits (take i events) e all limits)

@@ -1,0 +1,11 @@
+use Rattle.std.proofs.Common.{◌++◌, ◌∙◌, ap, codes}
+use Rattle.event_script.proofs.Wording.{penalty_text, on_ok}
+use Rattle.event_script.proofs.lines.push_new_penalty.Goals as goal
+
+-- the words, field by field
+pub returns-clause-text : goal.returns-clause-text
+returns-clause-text c =
+    on_ok c.push_penalty.result (λ last.
+    penalty_text c.args.queue.now c.args.interface.now c.args.penalty c.args.line.now.items c.push_action.new.line.items c.push_queue.new.line.items c.push_interface.new.line.items c.push_penalty.new.line.items last
+    c.in_ok-push_interface.ensures.text c.in_ok-push_queue.ensures.text c.in_ok-push_action.ensures)
+    c.push_penalty.ensures.text
