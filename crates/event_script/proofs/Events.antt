@@ -1,13 +1,11 @@
 -- What the line of an event gives, and the lines of a script of events.
-use Rattle.std.proofs.Common.{◌≡◌, ◌∙◌, ℕ, ◌+◌, ◌<◌, ◌≤◌, ◌++◌, ◌^◌, Bool, true, false, nat_lt, List, [], ◌∷◌, length, map, decimal, codes, Option, Some, None, Ok, slice_get, refl, sym, ap, subst, arith, append_assoc, append-nil, true≢false, inl}
+use Rattle.std.proofs.Common.{◌≡◌, ◌∙◌, ℕ, ◌+◌, ◌<◌, ◌≤◌, ◌++◌, Bool, true, false, List, [], ◌∷◌, length, map, decimal, codes, Option, Some, None, Ok, slice_get, refl, sym, ap, subst, arith, append_assoc, append-nil, true≢false, inl}
 use Rattle.std.specs.List.{AllByRecursion, flat_map, list_all, list_any}
 use Rattle.std.proofs.lemmas.Bool.Decides.{nat_tests}
 use Rattle.std.proofs.lemmas.List.{length-append}
-use Rattle.ami_session.specs.Actions.{says_yes}
-use Rattle.ami_session.specs.Checks.{Asks, reaction}
+use Rattle.ami_session.specs.Checks.{reaction}
 use Rattle.ami_session.specs.declared.action.Action.{Action}
 use Rattle.ami_session.specs.declared.action.Action.TheVariants.{QueueAdd, QueueRemove, QueuePause, QueuePenalty, QueueMemberRingInUse}
-use Rattle.ami_session.specs.FieldValues.{name_of}
 use Rattle.ask_code.specs.Asks.{IsCommand}
 use Rattle.dots.specs.declared.calls.Calls.{Calls}
 use Rattle.dots.specs.declared.calls.Calls.TheVariants as calls
@@ -16,7 +14,7 @@ use Rattle.replica.specs.declared.command.Command.{Command}
 use Rattle.replica.specs.declared.command.Command.TheVariants.{Add, Remove, Pause, Penalty, RingInUse, Completed, Abandoned}
 use Rattle.replica.specs.Steps as steps
 use Rattle.replica.specs.Steps.{SiteKnowledge}
-use Rattle.script_lines.specs.ScriptLines.{IsMessage, Message, Count, Cut, Whole, Take, lines_of, sense_of, words_sense}
+use Rattle.script_lines.specs.ScriptLines.{IsMessage, Message, Count, lines_of, sense_of, words_sense}
 use Rattle.scripts.specs.Answers.{answer_text, entry_text, outcome_text}
 use Rattle.scripts.specs.Script.{Given, LineGives, ScriptSites, SenseGives, count_of, given_by_count, given_by_event, given_by_message, given_by_reaction, trusted_session, waited_reply}
 use Rattle.site_journal.specs.declared.step.StepDeed.{StepDeed}
@@ -29,13 +27,11 @@ use Rattle.sites_world.specs.declared.outcome.Outcome.TheVariants as outcome
 use Rattle.sites_world.specs.Worlds.{Entry, World, framed, happens, happens_where, site_of, taken}
 use Rattle.sites_world.proofs.Lists.{none_some, one_some}
 use Rattle.status_report.specs.declared.asks.Answer.{Answer}
-use Rattle.status_report.specs.declared.asks.Answer.TheVariants as answer
 use Rattle.status_report.specs.declared.asks.Ask.{Ask}
 use Rattle.status_report.specs.declared.asks.Ask.TheVariants as ask
 use Rattle.event_script.specs.Lines.{HasLimits, can_say, command_fields, command_words, comment_mark, event_line, event_words, field_text, is_plain, message_words, script_of, texts_of}
 use Rattle.event_script.specs.Shown.{answer_shown, deed_text, frames_in, reply_to}
 use Rattle.event_script.proofs.Marks.{are_digits, content_clean, digits_clean, first_line, none_of_both}
-use Rattle.event_script.proofs.Messages.{IsFieldLine}
 use Rattle.event_script.proofs.Reactions.{add_asks, name_read, pause_asks, penalty_asks, remove_asks, ring_asks, waits}
 use Rattle.event_script.proofs.Saying.{AreFields, command_fields_are, few_fields, fields_clean, fields_message, site_line, take_words}
 

@@ -11,7 +11,7 @@ use Rattle.ami_text.specs.Numbers.{number_in, number_of}
 use Rattle.dots.specs.Values.{is_bad_byte}
 use Rattle.event_script.specs.Lines.{is_plain}
 use Rattle.script_lines.specs.ScriptLines.{is_bar}
-use Rattle.event_script.proofs.Marks.{are_digits, digit_blank, digits_bars, digits_clean, grows, is_false, none_of_both, none_of_digits, scaled, spells}
+use Rattle.event_script.proofs.Marks.{are_digits, digit_blank, digits_bars, grows, none_of_both, none_of_digits, scaled, spells}
 use Rattle.event_script.proofs.Messages.{IsFieldLine}
 
 -- ---- plain texts

@@ -1,12 +1,11 @@
 -- Lines between bars are one message.
-use Rattle.std.proofs.Common.{◌≡◌, ◌∙◌, ℕ, suc, ◌+◌, ◌<◌, ◌≤◌, Bool, true, false, List, [], ◌∷◌, ◌++◌, length, map, Some, codes, refl, sym, ap, subst, arith, append_assoc, append-nil}
-use Rattle.std.specs.List.{All, AllByRecursion, filter_map, flat_map, list_any}
-use Rattle.std.proofs.lemmas.List.{length-append}
+use Rattle.std.proofs.Common.{◌≡◌, ◌∙◌, ℕ, suc, ◌<◌, ◌≤◌, false, List, [], ◌∷◌, ◌++◌, length, map, Some, codes, refl, sym, ap, subst, arith, append_assoc, append-nil}
+use Rattle.std.specs.List.{AllByRecursion, flat_map, list_any}
 use Rattle.std.proofs.lemmas.List.Elements.{All-from_recursion}
 use Rattle.std.proofs.lemmas.Bool.{or_parts}
-use Rattle.ami_text.specs.Lines.{HasNoLf, IsEmptyLine, IsFullLine, content, lines_text}
+use Rattle.ami_text.specs.Lines.{IsEmptyLine, IsFullLine, lines_text}
 use Rattle.ami_text.specs.MessageFields.{NameAndValue, field_of, fields_of}
-use Rattle.ami_text.specs.Stream.{Begins, FirstMessage, Gives, IsRest, Reads, Rest}
+use Rattle.ami_text.specs.Stream.{FirstMessage, IsRest}
 use Rattle.dots.specs.Values.{is_bad_byte}
 use Rattle.script_lines.specs.ScriptLines.{IsMessage, is_bar, stream_of}
 use Rattle.event_script.proofs.Marks.{clean_lf, content_cr, cr_lf}

@@ -1,25 +1,23 @@
 -- The message of a command asks the command.
-use Rattle.std.proofs.Common.{◌≡◌, ◌∙◌, ℕ, ◌+◌, ◌<◌, ◌≤◌, ◌++◌, Bool, true, false, not, nat_lt, List, [], ◌∷◌, length, map, decimal, codes, Option, Some, None, is_none, unwrap_or, IfSome, if◌then◌else◌, refl, sym, ap, subst, arith}
-use Rattle.std.specs.List.{AllByRecursion, find, list_any}
+use Rattle.std.proofs.Common.{◌≡◌, ◌∙◌, ℕ, ◌<◌, ◌++◌, Bool, true, false, List, [], ◌∷◌, length, map, decimal, codes, Option, Some, None, is_none, unwrap_or, IfSome, if◌then◌else◌, refl, sym, ap, arith}
+use Rattle.std.specs.List.{AllByRecursion, find}
 use Rattle.std.proofs.lemmas.Bool.{le-ltb}
 use Rattle.std.proofs.lemmas.Fmt.{decimal_nonempty}
 use Rattle.std.specs.Option.{option_map}
 use Rattle.ami_text.specs.MessageFields.{unless_empty, value_of}
 use Rattle.ami_text.specs.Numbers.{number_of}
 use Rattle.ask_code.specs.Asks.{IsCommand}
-use Rattle.dots.specs.declared.label.Label.{Label}
 use Rattle.dots.specs.declared.limits.TheConstants.{MOST_PENALTY, TEXT_BYTES}
-use Rattle.dots.specs.Values.{IsName, IsPenalty, IsText, PauseState, is_bad_byte}
+use Rattle.dots.specs.Values.{IsName, IsPenalty, IsText}
 use Rattle.replica.specs.declared.command.Command.{Command}
-use Rattle.replica.specs.declared.command.Command.TheVariants.{Add, Remove, Pause, Penalty, RingInUse, Completed, Abandoned}
-use Rattle.status_report.specs.declared.asks.Ask.{Ask}
+use Rattle.replica.specs.declared.command.Command.TheVariants.{Add, Remove, Pause, Penalty, RingInUse}
 use Rattle.status_report.specs.declared.asks.Ask.TheVariants as ask
 use Rattle.ami_session.specs.declared.action.Action.{Action}
 use Rattle.ami_session.specs.declared.action.Action.TheVariants.{QueueAdd, QueueRemove, QueuePause, QueuePenalty, QueueMemberRingInUse}
-use Rattle.ami_session.specs.Actions.{FieldRow, Kind, Name, Number, Text, YesOrNo, absent_in, action_named, is_unread, penalty_in, row_of, says_yes, text_at, unread_in}
-use Rattle.ami_session.specs.Checks.{Asks, Reaction, Waiting, reaction, row_reaction}
+use Rattle.ami_session.specs.Actions.{FieldRow, Name, Number, Text, YesOrNo, absent_in, is_unread, penalty_in, row_of, says_yes, text_at, unread_in}
+use Rattle.ami_session.specs.Checks.{Asks, Reaction, reaction, row_reaction}
 use Rattle.ami_session.specs.FieldValues.{Fields, id_of, is_yes, name_of, penalty_of, text_of}
-use Rattle.event_script.specs.Lines.{command_fields, field_if_any, queue_field, yes_or_no}
+use Rattle.event_script.specs.Lines.{command_fields, yes_or_no}
 use Rattle.scripts.specs.Script.{trusted_session}
 use Rattle.event_script.proofs.Fields.{number_read}
 use Rattle.event_script.proofs.Marks.{spells}

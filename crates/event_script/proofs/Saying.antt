@@ -1,5 +1,5 @@
 -- A line that is written for a command or a frame is read as asking the same.
-use Rattle.std.proofs.Common.{◌≡◌, ◌∙◌, ℕ, ◌+◌, ◌<◌, ◌≤◌, ◌==◌, ◌++◌, ◌&&◌, ◌^◌, Bool, true, false, nat_lt, List, [], ◌∷◌, length, map, decimal, codes, Option, Some, None, IfSome, refl, sym, ap, subst, arith}
+use Rattle.std.proofs.Common.{◌≡◌, ◌∙◌, ℕ, ◌<◌, ◌≤◌, ◌==◌, ◌++◌, ◌^◌, Bool, true, false, nat_lt, List, [], ◌∷◌, length, map, decimal, codes, Option, Some, None, IfSome, refl, ap, subst, arith}
 use Rattle.std.specs.Char.{is_ascii_digit}
 use Rattle.std.specs.List.{flat_map, list_all, list_any}
 use Rattle.std.specs.Option.{option_and_then}
@@ -14,7 +14,7 @@ use Rattle.dots.specs.Values.{IsName, IsPenalty, IsText, is_bad_byte}
 use Rattle.replica.specs.declared.command.Command.{Command}
 use Rattle.replica.specs.declared.command.Command.TheVariants.{Add, Remove, Pause, Penalty, RingInUse, Completed, Abandoned}
 use Rattle.ami_session.specs.FieldValues.{Fields}
-use Rattle.script_lines.specs.ScriptLines.{IsMessage, before_blank, behind_blank, entry_in, entry_sense, one_of, sense_of, site_in, site_sense, words_sense, Take}
+use Rattle.script_lines.specs.ScriptLines.{IsMessage, before_blank, behind_blank, entry_sense, one_of, sense_of, site_in, site_sense, words_sense, Take}
 use Rattle.event_script.specs.Lines.{command_fields, field_if_any, field_text, is_plain, queue_field, queue_text, texts_of, yes_or_no}
 use Rattle.event_script.proofs.Fields.{IsFieldName, digits_few, digits_plain, field_line, number_read}
 use Rattle.event_script.proofs.Marks.{are_digits, digits_clean, none_of_both}

@@ -1,11 +1,11 @@
 -- The script of events that are one run shows what the journals say.
-use Rattle.std.proofs.Common.{◌≡◌, ◌≢◌, ◌∙◌, ◌⊎◌, ℕ, ◌+◌, ◌<◌, ◌≤◌, ◌++◌, Bool, true, false, not, List, [], ◌∷◌, length, map, replicate, codes, Option, Some, None, get_or, slice_get, slice_set, count_by, cond, if◌then◌else◌, refl, sym, ap, subst, arith, append-nil, true≢false, inl, inr}
+use Rattle.std.proofs.Common.{◌≡◌, ◌∙◌, ℕ, ◌+◌, ◌<◌, ◌≤◌, ◌++◌, Bool, true, false, not, List, [], ◌∷◌, length, map, Option, Some, None, slice_get, slice_set, count_by, cond, if◌then◌else◌, refl, sym, ap, subst, arith, append-nil, inl, inr}
 use Rattle.std.specs.List.{All, AllByRecursion}
 use Rattle.std.specs.Option.{option_map}
 use Rattle.std.proofs.lemmas.List.{length-map, length-set}
 use Rattle.std.proofs.lemmas.List.Elements.{recursion_from_All}
 use Rattle.std.proofs.lemmas.List.Recursion.{is_count_by}
-use Rattle.std.proofs.lemmas.Option.{slice_get-get_or, slice_get-map, slice_get_within}
+use Rattle.std.proofs.lemmas.Option.{slice_get-get_or, slice_get-map}
 use Rattle.site_audit.specs.Runs.{AreGiven, IsRun, names_in}
 use Rattle.site_audit.proofs.Lists.{within_some}
 use Rattle.site_journal.specs.declared.step.Step.{Step}
@@ -15,9 +15,9 @@ use Rattle.sites_world.specs.Worlds.{World, happens, new_world, site_of}
 use Rattle.sites_world.proofs.Lists.{get_set_other, get_set_same, one_some, same_place}
 use Rattle.script_lines.specs.ScriptLines.{lines_of}
 use Rattle.scripts.specs.LineSteps.{listed_place}
-use Rattle.scripts.specs.Script.{HaveOneText, IsScriptRun, LineGives, LinesGive, unknown_in}
+use Rattle.scripts.specs.Script.{HaveOneText, IsScriptRun, LinesGive, unknown_in}
 use Rattle.event_script.specs.Lines.{HasLimits, can_say, event_line, is_unsaid, script_of}
-use Rattle.event_script.specs.Shown.{ShowsJournals, ShowsSteps, deed_text, frames_in}
+use Rattle.event_script.specs.Shown.{ShowsJournals, ShowsSteps, deed_text}
 use Rattle.event_script.proofs.Events.{GivesLine, IsSaid, event_gives, lines_are, pool_grows}
 
 -- ---- events that lines say

@@ -1,5 +1,5 @@
 -- The words of a command, put together field by field.
-use Rattle.std.proofs.Common.{◌≡◌, ◌∙◌, ℕ, ◌++◌, Bool, List, [], ◌∷◌, decimal, codes, Option, Some, None, Result, Ok, Err, OnOk, if◌then◌else◌, refl, sym, ap, append_assoc, append-nil}
+use Rattle.std.proofs.Common.{◌≡◌, ◌∙◌, ℕ, ◌++◌, Bool, List, [], ◌∷◌, decimal, codes, Option, Some, None, Result, Ok, Err, OnOk, if◌then◌else◌, sym, ap, append_assoc, append-nil}
 use Rattle.std.specs.List.{flat_map}
 use Rattle.std.specs.Result.{is_ok}
 use Rattle.std.proofs.lemmas.Grind.{flat_map-append}

@@ -1,5 +1,5 @@
 -- The output of a script of events, by the steps that journals have.
-use Rattle.std.specs.Prelude.{ℕ, ◌≡◌, ◌+◌, ◌++◌, Bool, false, List, [], ◌∷◌, map, Option, Some, None, codes, slice_get, slice_set}
+use Rattle.std.specs.Prelude.{ℕ, ◌≡◌, ◌+◌, ◌++◌, Bool, false, List, [], ◌∷◌, map, Some, None, codes, slice_get, slice_set}
 use Rattle.std.specs.List.{All}
 use Rattle.ami_session.specs.Checks.{answer_reply}
 use Rattle.ami_session.specs.declared.action.Action.{Action}

@@ -1,4 +1,3 @@
-use Rattle.std.proofs.Common.{◌++◌, ◌∙◌, ap, codes}
 use Rattle.event_script.proofs.Wording.{penalty_text, on_ok}
 use Rattle.event_script.proofs.lines.push_new_penalty.Goals as goal
 

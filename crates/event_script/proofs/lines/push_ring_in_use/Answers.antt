@@ -1,4 +1,3 @@
-use Rattle.std.proofs.Common.{◌++◌, ◌∙◌, ap, codes}
 use Rattle.event_script.proofs.Wording.{ring_text, on_ok}
 use Rattle.event_script.proofs.lines.push_ring_in_use.Goals as goal
 

@@ -1,4 +1,4 @@
-use Rattle.std.proofs.Common.{◌≡◌, ◌∙◌, Result, Err, IsErrAnd, ap, sym}
+use Rattle.std.proofs.Common.{◌≡◌, ◌∙◌, Result, Err, IsErrAnd, ap}
 use Rattle.std.proofs.lemmas.Result.{err_from_is_err_and}
 use Rattle.site_audit.specs.declared.audit_fault.AuditFault.{AuditFault}
 use Rattle.site_audit.proofs.auditing.audit.Goals as goal

@@ -1,4 +1,4 @@
-use Rattle.std.proofs.Common.{◌≡◌, IsTrue, refl, sym, subst}
+use Rattle.std.proofs.Common.{IsTrue, refl, sym, subst}
 use Rattle.site_audit.proofs.Ends.{begins}
 use Rattle.site_audit.proofs.auditing.explain.Goals as goal
 

@@ -1,4 +1,4 @@
-use Rattle.std.proofs.Common.{◌≡◌, ℕ, length, slice_get, Some, refl, ap, sym, ◌∙◌, subst, arith, rules}
+use Rattle.std.proofs.Common.{◌≡◌, ℕ, length, slice_get, Some, refl, ap, sym, ◌∙◌, subst, arith}
 use Rattle.std.proofs.lemmas.Option.{slice_get_read, slice_get_within}
 use Rattle.sites_world.proofs.Lists.{one_some}
 use Rattle.site_audit.specs.Ending.{HasAllSteps, IsLeastLeft}
@@ -28,8 +28,8 @@ returns-in-Some-clause-stuck c = λ site position told.
     let s : c.in-Some.site ≡ site = ap (λ (x : ℕ × ℕ). x.0) both in
     let p : c.index.result.now ≡ position = ap (λ (x : ℕ × ℕ). x.1) both in
     subst (λ n. IsStuck c.args.journals.now n position c.args.replay.events.items) s
-        (subst (λ n. IsStuck c.args.journals.now c.in-Some.site n c.args.replay.events.items) p
-        (ends_stuck c.args.journals.now c.args.replay c.in-Some.site c.index.result.now c.requires.kept c.requires.none least here))
+    (subst (λ n. IsStuck c.args.journals.now c.in-Some.site n c.args.replay.events.items) p
+    (ends_stuck c.args.journals.now c.args.replay c.in-Some.site c.index.result.now c.requires.kept c.requires.none least here))
 
 -- each site has all its steps
 pub returns-clause-run : goal.returns-clause-run

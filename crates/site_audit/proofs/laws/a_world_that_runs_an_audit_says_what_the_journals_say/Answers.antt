@@ -8,7 +8,7 @@ use Rattle.replica.specs.Steps.{SiteKnowledge}
 use Rattle.sites_world.specs.declared.event.Event.{Event}
 use Rattle.sites_world.specs.declared.outcome.Outcome.{Outcome}
 use Rattle.sites_world.specs.declared.outcome.Outcome.TheVariants.{NoMemory}
-use Rattle.sites_world.specs.Worlds.{World, done_of, is_done, new_world, run}
+use Rattle.sites_world.specs.Worlds.{done_of, is_done, new_world, run}
 use Rattle.sites_world.specs.WorldStates.{IsSiteOf, StandsForWorld}
 use Rattle.site_audit.specs.Runs.{names_in, world_after}
 use Rattle.site_audit.proofs.laws.a_world_that_runs_an_audit_says_what_the_journals_say.Goals as goal
