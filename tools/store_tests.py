@@ -654,7 +654,7 @@ def end_refused(room, library, number):
     }
     need(is_right[how], f"where allocation {number} is refused a server has {how}, its status is {status}, and it logs {told!r}")
     try:
-        starts_again(folder, how == "served" or server.printed == server.lines())
+        starts_again(folder, how == "served")
     except Failed as why:
         raise Failed(f"where allocation {number} was refused, and the server has {how}: {why}") from None
     shutil.rmtree(folder)
