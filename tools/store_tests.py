@@ -670,7 +670,9 @@ def refused_allocations(number=SOME_ALLOCATIONS):
         if library is None:
             return NO_COMPILER
         allocations, _ = end_refused(room, library, 0)
-        tried = some_of(allocations, number)
+        # Most are made while stores are opened; the last ones while clients are served.
+        last = range(max(1, allocations - 300), allocations + 1, 20)
+        tried = sorted({*some_of(allocations, number), *last}) if number else some_of(allocations, None)
         ends = [how for _, how in threads.map(lambda it: end_refused(room, library, it), tried)]
     which = "each" if len(tried) == allocations else f"{len(tried)}"
     return (f"{which} of the {allocations} allocations of a run with stores refused: {ends.count('ended')} ended it, {ends.count('failed')} failed its "
