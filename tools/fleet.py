@@ -47,14 +47,15 @@ def run(number):
     resource.setrlimit(resource.RLIMIT_NOFILE, (min(65_536, most), most))
     with tempfile.TemporaryDirectory() as room, contextlib.ExitStack() as stack:
         started = time.monotonic()
-        ports = [free_ports(1) for _ in range(number)]
-        need(len(set(ports)) == number, "two sites have one port")
+        first = free_ports(2 * number)
+        ports = [first + site for site in range(number)]
         sites = []
         for site in range(number):
-            sites.append(Site(room, site, ports[site], ports))
+            sites.append(Site(room, site, ports[site], ports, port=first + number + site))
             stack.callback(sites[-1].stop)
         for it in sites:
-            need(it.wait_until_it_listens(), f"site {it.number} doesn't listen: {it.logged!r}")
+            if not it.wait_until_it_listens():
+                raise Failed(f"site {it.number} doesn't listen: {it.stop()!r}")
         print(f"{number} sites listen after {time.monotonic() - started:.1f} s")
         print(f"{links_up(sites, number):,} links are up after {time.monotonic() - started:.1f} s", flush=True)
         for it in sites:

@@ -52,14 +52,14 @@ LACKS = re.compile(rb"queue_sites: (\d+ log lines dropped|site \d+: (no (connect
 class Site(Server):
     """A running site. `peers` are the ports, or the addresses and ports, at which it finds other sites. `host` is where it listens."""
 
-    def __init__(self, room, number, links, peers=(), store=None, queues=QUEUES, shared=SHARED, options=(), more=None, host="127.0.0.1"):
+    def __init__(self, room, number, links, peers=(), store=None, queues=QUEUES, shared=SHARED, options=(), more=None, host="127.0.0.1", port=None):
         self.sites, self.address, self.user, self.secret, self.host = 1, host.strip("[]"), USER, SECRET, host
-        self.number, self.links, self.port = number, links, free_ports(1)
-        for name, text in (("secret", SECRET), (f"shared-{number}", shared)):
+        self.number, self.links, self.port = number, links, port or free_ports(1)
+        for name, text in ((f"secret-{number}", SECRET), (f"shared-{number}", shared)):
             with open(f"{room}/{name}", "w", encoding="ascii") as file:
                 file.write(f"{text}\n")
         kept = ["--store", store] if store else ["--volatile"]
-        words = [*self.before(), BUILT, "site", str(number), USER, *queues, "--secret-file", f"{room}/secret", "--link-secret-file",
+        words = [*self.before(), BUILT, "site", str(number), USER, *queues, "--secret-file", f"{room}/secret-{number}", "--link-secret-file",
                  f"{room}/shared-{number}", *kept, "--clients", f"{host}:{self.port}", "--links", f"{host}:{links}", *options]
         for peer in peers:
             words += ["--peer", f"127.0.0.1:{peer}" if isinstance(peer, int) else peer]
@@ -894,7 +894,7 @@ def addresses():
             with first.client() as it:
                 it.ask("Login")
                 first.logs(f"client {it.name}: login failed")
-        words = [BUILT, "site", "3", USER, "sales", "--secret-file", f"{room}/secret", "--link-secret-file", f"{room}/shared-0", "--volatile"]
+        words = [BUILT, "site", "3", USER, "sales", "--secret-file", f"{room}/secret-0", "--link-secret-file", f"{room}/shared-0", "--volatile"]
         with subprocess.Popen([*words, "--clients", "[::1]:0", "--links", "127.0.0.1:0"], stdout=subprocess.PIPE, stderr=subprocess.PIPE) as process:
             lines = [process.stdout.readline(), process.stdout.readline()]
             found = [re.fullmatch(rb"listening clients \[::1\]:(\d+)\n", lines[0]), re.fullmatch(rb"listening links 127\.0\.0\.1:(\d+)\n", lines[1])]
