@@ -62,11 +62,18 @@ def is_free(port, address="127.0.0.1"):
     return True
 
 
+# The ports that were given last: tests that run at once don't get the same.
+GIVEN = collections.deque(maxlen=400)
+
+
 def free_ports(sites):
-    """The first of `sites` ports in a row that nobody listens on. They lie below those that the system hands to clients."""
+    """The first of `sites` ports in a row that nobody listens on, and that weren't given lately. They lie below those that the system hands to
+    clients."""
     for _ in range(100):
         first = random.randrange(20_000, 32_000)
-        if all(is_free(first + site) for site in range(sites)):
+        ports = range(first, first + sites)
+        if not set(ports) & set(GIVEN) and all(map(is_free, ports)):
+            GIVEN.extend(ports)
             return first
     raise Failed("there are no free ports")
 
