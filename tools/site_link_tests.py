@@ -39,6 +39,8 @@ QUEUES = ("sales", "support")
 NOT_MINE = "rolled back: another site has frames under this site's number that this site has not made"
 # How a connection is ended with a reset.
 RESET = struct.pack("ii", 1, 0)
+# Within what time a site learns from its peers that it was rolled back: they dial it again after 2.25 seconds at most.
+DIALED = REFUSED + 2.25
 # The bytes of a beat with its tag.
 BEAT = 20
 # How many clients `site` answers at once, where it isn't said.
@@ -731,14 +733,14 @@ def a_late_item(seconds=60):
     return f"an item that isn't whole after {taken:.0f} seconds"
 
 
-def ends_by_itself(site, reason, seconds=5, asks=True):
-    """A site says within a second why it ends, and ends with status 1. If it `asks`, a client asks for a change at once, and is not answered: the
+def ends_by_itself(site, reason, within=REFUSED, seconds=5, asks=True):
+    """A site says in time why it ends, and ends with status 1. If it `asks`, a client asks for a change at once, and is not answered: the
     site makes no change under a number that it must not use. Returns how long it took to say why and to end, since it listened."""
     with site, contextlib.ExitStack() as clients:
         if asks:
             client = clients.enter_context(Client(site.port))
             client.send(f"Action: Login\r\nUsername: {USER}\r\nSecret: {SECRET}\r\n\r\nAction: QueueAdd\r\nQueue: sales\r\nInterface: SIP/no\r\n\r\n".encode())
-        site.logs(f"ends: {reason}", REFUSED)
+        site.logs(f"ends: {reason}", within)
         said = time.monotonic() - site.listens
         try:
             status = site.process.wait(seconds)
@@ -789,13 +791,13 @@ def sites_that_end():
         mesh.sites[2].stop()
         later, peers = copies(room, 2), [mesh.proxies[2, 0].port, mesh.proxies[2, 1].port]
         copied_back(room, 2, first)
-        took.append(ends_by_itself(Site(room, 2, mesh.links[2], peers, mesh.stores[2]), NOT_MINE))
+        took.append(ends_by_itself(Site(room, 2, mesh.links[2], peers, mesh.stores[2]), NOT_MINE, DIALED))
         copied_back(room, 2, later)
         mesh.start(2)
         mesh.until_equal(4, RESTARTED)
         mesh.sites[2].stop()
         copied_back(room, 2, first)
-        took.append(ends_by_itself(Site(room, 2, mesh.links[2], peers, mesh.stores[2]), "rolled back: the store is an older copy"))
+        took.append(ends_by_itself(Site(room, 2, mesh.links[2], peers, mesh.stores[2]), "rolled back: the store is an older copy", DIALED))
         del mesh.sites[2]
         mesh.sites[0].add("SIP/more")
         mesh.until_equal(5, EQUAL)
