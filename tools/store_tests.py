@@ -476,8 +476,8 @@ def damaged_files(flips=200):
             damaged = whole[:at] + bytes([whole[at] ^ 1 << lot.randrange(8)]) + whole[at + 1:]
             line = refuses(put(f"{room}/flipped-{number}", "site-0.db", damaged), 0, "damaged file", "no store")
             said[line.rpartition(b": ")[2].strip().decode()] = said.get(line.rpartition(b": ")[2].strip().decode(), 0) + 1
-        # One of a single byte is SQLite's way to spell an empty file.
-        for length in (len(whole) - PAGE, len(whole) - 100, PAGE, 4_000, 100, 16, 2):
+        # SQLite takes a file of one byte for an empty one.
+        for length in (len(whole) - PAGE, len(whole) - 100, PAGE, 4_000, 100, 16, 2, 1):
             refuses(put(f"{room}/cut-{length}", "site-0.db", whole[:length]), 0, "damaged file", "no store")
     return f"{flips} flipped bits ({', '.join(f'{count} {text}' for text, count in sorted(said.items()))}), and files that are cut"
 

@@ -210,10 +210,10 @@ fn is_missing(rt: &HostRuntime, path: &str) -> bool {
     matches!(fs::exists(rt, path), Ok(false))
 }
 
-// Whether a file at a path has no bytes.
+// Whether a file at a path has no bytes, or one, which a database takes for none.
 fn is_empty(rt: &HostRuntime, path: &str) -> bool {
     match fs::metadata(rt, path) {
-        Ok(found) => found.len() == 0,
+        Ok(found) => found.len() <= 1,
         Err(_) => false,
     }
 }
@@ -276,9 +276,9 @@ fn open_old_file<S: Start>(
 /// The site whose store is the file at a path, with these queues, as `resume_site_file` has it. Where neither the file nor its log (`PATH-wal`) is
 /// there, it makes a new site in that file, as `new_site_file` does.
 ///
-/// Errors, in order: `Open` with `NoStore`, if only the log is there, or the file has no bytes or no table: it may have been a store, and a new
-/// site of its number would make dots that others have; `Open`, with the errors of `resume_site_file` except `Blank`; those of
-/// `new_site_file`, and if the database failed, or no byte could be written, the new files are removed. `Open` with `Memory` may stand in
+/// Errors, in order: `Open` with `NoStore`, if only the log is there, or the file has at most one byte or no table: it may have been a
+/// store, and a new site of its number would make dots that others have; `Open`, with the errors of `resume_site_file` except `Blank`; those
+/// of `new_site_file`, and if the database failed, or no byte could be written, the new files are removed. `Open` with `Memory` may stand in
 /// place of each. A store that is refused keeps its rows. After `Memory`, or a crash while the file is made, a file without a table may be
 /// left: each later call says `NoStore` until the file and its log are removed.
 pub fn open_site_file<S: Start>(
