@@ -536,16 +536,17 @@ def change_own(server, site, action, members):
 
 
 def catches_up(log):
-    """Whether each site of a log that fell behind a peer has caught up with it, in turn; and how often one fell behind."""
+    """Whether each site of a log that fell behind a peer has caught up with it; and how often one fell behind. It may be behind for two causes at
+    once: it has refused the peer's frames, and its link was full."""
     found = [OF_PEER.fullmatch(line) for line in log.splitlines()]
     need(all(found), f"the server logged {log!r}")
-    behind, falls = set(), 0
+    behind, falls = collections.Counter(), 0
     for it in found:
-        pair = it[1], it[3]
-        need((it[2] == b"behind") != (pair in behind), f"{it[0]!r} is logged out of turn")
-        behind ^= {pair}
-        falls += it[2] == b"behind"
-    need(not behind, f"{behind} have not caught up")
+        pair, falls_behind = (it[1], it[3]), it[2] == b"behind"
+        behind[pair] += 1 if falls_behind else -1
+        need(0 <= behind[pair] <= 2, f"{it[0]!r} is logged out of turn")
+        falls += falls_behind
+    need(not +behind, f"{+behind} have not caught up")
     return falls
 
 
