@@ -1,11 +1,11 @@
-"""Runs the program queue_sites without any proof, two to three minutes after the start:
+"""Runs the program queue_sites without any proof, a script about one minute after the start, sites two to three:
 
     ./queue_sites preview [--seconds N] WORDS..
 
-WORDS are those of the program. `rt try` compiles it with checks, anew each time, and then runs it
-for at most N seconds: 600 of `serve` and `site`, else 60, where N is not given. Nothing below an
-out/ of a crate is read or written. The program runs in a new folder, which is gone at its end: name
-files and folders by their whole paths.
+WORDS are those of the program. `rt try` compiles it with checks, anew each time, and of a script the
+part that runs scripts alone; then it runs it for at most N seconds: 600 of `serve` and `site`, else
+60, where N is not given. Nothing below an out/ of a crate is read or written. The program runs in a
+new folder, which is gone at its end: name files and folders by their whole paths.
 
 Standard output is the program's. Standard error is one line that says what this run is, and then
 the program's. The exit status is the program's, unless the run does not reach the program's end.
@@ -28,17 +28,18 @@ import sys
 import tempfile
 import time
 
+import script_program
 from crates import folder
 
 USAGE = """Usage: queue_sites preview [--seconds N] WORDS..
 
-Runs `queue_sites WORDS..` without any proof, two to three minutes after the start, for at most N
-seconds. N is 1 to 86400; where it is not given 600 of `serve` and `site`, else 60. Name files by
-their whole paths.
+Runs `queue_sites WORDS..` without any proof, for at most N seconds: a script about one minute after
+the start, `serve` and `site` two to three. N is 1 to 86400; where it is not given 600 of `serve` and
+`site`, else 60. Name files by their whole paths.
 Example: queue_sites preview serve 2 5038 admin s3 sales"""
 NOTE = (
     "queue_sites: preview: nothing is proved in this run; its output comes once it is compiled,"
-    " in two to three minutes; then it runs for at most {} seconds"
+    " in about {}; then it runs for at most {} seconds"
 )
 MOST_SECONDS = 86_400
 LONGEST_INPUT = 16_777_217  # a byte more than a script may have
@@ -112,9 +113,9 @@ def given_input():
         raise Ended(FAILED, f"read failed: {why.strerror}") from why
 
 
-def run(room, seconds, words, given):
-    """Runs the program by `rt try`, and shows what it writes. Returns its streams, and what rt
-    wrote to standard output and to standard error."""
+def run(room, program, seconds, words, given):
+    """Runs the program of a folder by `rt try`, and shows what it writes. Returns its streams, and
+    what rt wrote to standard output and to standard error."""
     streams, signals = [Stream(room, "stdout", 1), Stream(room, "stderr", 2)], []
     for it in SIGNALS:
         signal.signal(it, lambda number, _: signals.append(number))
@@ -124,7 +125,7 @@ def run(room, seconds, words, given):
         to_read.write(given)
         to_read.seek(0)
         # In a session of its own, so that Ctrl-C comes to this process alone.
-        how = {"cwd": folder("queue_sites"), "start_new_session": True}
+        how = {"cwd": program, "start_new_session": True}
         how |= {"stdin": to_read, "stdout": output, "stderr": messages}
         command = ["rt", "try", "--seconds", str(seconds), "--", *words]
         try:
@@ -172,10 +173,12 @@ def status_of(seconds, streams, output, messages):
 def preview(words):
     """Runs the program with these words. Returns its status."""
     seconds, words = split_words(words)
-    print(NOTE.format(seconds), file=sys.stderr, flush=True)
-    given = given_input() if words[0] == "script" else b""
-    with tempfile.TemporaryDirectory(prefix="queue_sites-") as room:
-        result = run(room, seconds, words, given)
+    is_script = words[0] == "script"
+    print(NOTE.format("a minute" if is_script else "three minutes", seconds), file=sys.stderr, flush=True)
+    given = given_input() if is_script else b""
+    with tempfile.TemporaryDirectory(prefix="queue_sites-") as room, tempfile.TemporaryDirectory(prefix="scripts-") as low:
+        program = script_program.make(low) if is_script else folder("queue_sites")
+        result = run(room, program, seconds, words, given)
     return status_of(seconds, *result)
 
 
