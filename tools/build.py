@@ -225,7 +225,7 @@ def main():
     name = sys.argv[1]
     for it in (signal.SIGINT, signal.SIGTERM, signal.SIGHUP):
         signal.signal(it, lambda *_: sys.exit(130))
-    hint = "; ./queue_sites preview .. runs it unproved in about one" if name == "queue_sites" else ""
+    hint = "; ./queue_sites preview .. runs it unproved in one to three" if name == "queue_sites" else ""
     print(f"{name}: proving and building the program; this takes some minutes, once{hint}", file=sys.stderr)
     with new_log() as log:
         build = Build(below(all_crates(), name), log, Progress(name, 1))
