@@ -289,7 +289,7 @@ def members_of(rows):
 
 
 def change_until(server, owners, changes):
-    """Clients of site 0 change members until so many changes are answered. Then the server is killed."""
+    """Clients of site 0 change members until this number of changes is answered. Then the server is killed."""
     working, started = Working(owners, lambda it: (server, 0), 0), time.monotonic()
     while sum(it.done for it in owners) < changes:
         need(time.monotonic() - started < 240 and not working.faults, f"{sum(it.done for it in owners)} changes are answered; {working.faults[:1]}")

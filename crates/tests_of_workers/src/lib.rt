@@ -15,6 +15,8 @@ mod desk_steps;
 #[cfg(test)]
 mod desks;
 #[cfg(test)]
+mod event_scripts;
+#[cfg(test)]
 mod frames;
 #[cfg(test)]
 mod gates;
