@@ -14,5 +14,5 @@ loop-address-preserved c =
     let more = take_more c.args.addresses.now c.loop-address.address-index address c.loop-address-test.true ∙ ap (λ (x : _). before ++ x ∷ []) (sym c.address-item.is) in (
       search rules,
       ap (map string_bytes) items ∙ map-append string_bytes c.loop-address.peers.items (one ∷ []) ∙ ap₂ (λ (a b : List (List ℕ)). a ++ b) was.1 (ap (λ (text : List ℕ). text ∷ []) copied)
-      ∙ sym (map-append string_bytes before (address ∷ [])) ∙ ap (map string_bytes) (sym more),
+          ∙ sym (map-append string_bytes before (address ∷ [])) ∙ ap (map string_bytes) (sym more),
     )
