@@ -7,6 +7,9 @@ ghost use Rattle.replica.specs.Queues.{AreQueues};
 ghost use Rattle.stored_steps.specs.declared.limits.TheConstants.{BASE_VERSION};
 ghost use Rattle.stored_steps.specs.Bases.{IsReadBase, IsRowOfBase, IsSameBase, list_bytes};
 ghost use Rattle.stored_steps.specs.BaseReading.{HasParts, IsDeltaAtFront, IsHead};
+ghost use Rattle.stored_steps.specs.Kinds.{kind_number};
+ghost use Rattle.stored_steps.specs.declared.row_kind.RowKind.TheVariants.{Base};
+ghost use Rattle.std.specs.Prelude.{ℕ, List};
 
 use crate::base::StoredBase;
 use crate::base_writing::put_list;
@@ -14,8 +17,8 @@ use crate::limits::{BASE_VERSION, NAME_BYTES};
 use crate::{BaseFault, RowKind, StoredRow};
 use delta::Delta;
 use delta_codec::{DecodeFault, Frame, decode};
-use dots::SiteId;
-use replica::{QueueList, Replica, RestoreFault};
+use dots::{QueueName, SiteId};
+use replica::{ListFault, QueueList, Replica, RestoreFault};
 use std::alloc::Global;
 
 // What stands before the frames of a base, behind its list of queues, and the bytes of its frames.
@@ -236,4 +239,89 @@ pub fn base_of_row(
         → IfOk result (λ read. IsSameBase base read) }
 {
     read_base(alloc, site, list, row)
+}
+
+// The site that bytes name behind the version.
+fn site_in(bytes: &[u8]) -> Result<SiteId, BaseFault> {
+    let [version, rest @ ..] = bytes else {
+        return Err(BaseFault::BadVersion);
+    };
+    if *version != BASE_VERSION {
+        return Err(BaseFault::BadVersion);
+    }
+    let Some(number) = rest.first() else {
+        return Err(BaseFault::Truncated);
+    };
+    match SiteId::new(u16::from(*number)) {
+        Some(site) => Ok(site),
+        None => Err(BaseFault::WrongSite),
+    }
+}
+
+// A name at the front of bytes, and what follows it.
+fn name_in(bytes: &[u8]) -> Option<(QueueName, &[u8])> {
+    let (len, rest) = bytes.split_first()?;
+    let len = usize::from(*len);
+    let name = QueueName::new(rest.get(..len)?).ok()?;
+    Some((name, rest.get(len..)?))
+}
+
+// The names at the front of bytes.
+fn names_in(alloc: Global, bytes: &[u8]) -> Result<Vec<QueueName>, BaseFault> {
+    let [high, low, rest @ ..] = bytes else {
+        return Err(BaseFault::Truncated);
+    };
+    let mut names = Vec::new(alloc);
+    let mut left = rest;
+    for _ in 0..u16::from_be_bytes([*high, *low]) {
+        let Some((name, rest)) = name_in(left) else {
+            drop(names);
+            return Err(BaseFault::WrongList);
+        };
+        if names.push(name).is_err() {
+            drop(names);
+            return Err(BaseFault::Memory);
+        }
+        left = rest;
+    }
+    Ok(names)
+}
+
+// The list of queues at the front of bytes.
+fn list_in(alloc: Global, bytes: &[u8]) -> Result<QueueList, BaseFault>
+    ensures { IfOk result (λ list. (rest : List ℕ) × (bytes.now ≡ list_bytes list ++ rest)) }
+{
+    let names = names_in(alloc, bytes)?;
+    let list = QueueList::new(alloc, names.as_slice());
+    drop(names);
+    let list = match list {
+        Ok(list) => list,
+        Err(ListFault::Memory) => return Err(BaseFault::Memory),
+        Err(_) => return Err(BaseFault::WrongList),
+    };
+    match behind_list(alloc, &list, bytes) {
+        Ok(_) => Ok(list),
+        Err(fault) => {
+            drop(list);
+            Err(fault)
+        }
+    }
+}
+
+/// The site and the list of queues that the base in a row names.
+///
+/// Errors, in order: `NoBase`, if the kind is not that of a base; `BadVersion`, if the first byte is not `BASE_VERSION`; `Truncated`, if the
+/// bytes end before the site; `WrongSite`, if the second byte is not the number of a site; `Truncated`, if the bytes end before the number of
+/// queues; `WrongList`, if no list of queues follows; `Memory`, which may stand in place of `WrongList`.
+pub fn base_heading(alloc: Global, row: &StoredRow) -> Result<(SiteId, QueueList), BaseFault>
+    ensures kind { OnOk result (row.now.kind ≡ kind_number Base) }
+    ensures read { IfOk result (λ it. (rest : List ℕ)
+        × (row.now.bytes ≡ BASE_VERSION ∷ it.0 ∷ (list_bytes it.1 ++ rest))) }
+{
+    if row.kind() != RowKind::Base.number() {
+        return Err(BaseFault::NoBase);
+    }
+    let site = site_in(row.body())?;
+    let list = list_in(alloc, behind_site(site, row.body())?)?;
+    Ok((site, list))
 }

@@ -19,7 +19,7 @@ mod words;
 
 pub use base::StoredBase;
 pub use base_fault::BaseFault;
-pub use base_reading::base_of_row;
+pub use base_reading::{base_heading, base_of_row};
 pub use base_writing::row_of_base;
 pub use dots::Memory;
 pub use limits::{BASE_VERSION, NAME_BYTES};

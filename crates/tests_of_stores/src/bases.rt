@@ -4,7 +4,7 @@ use delta_codec::DecodeFault;
 use replica::RestoreFault;
 use std::alloc::Global;
 use std::process::Abort;
-use stored_steps::{BaseFault, StoredBase, StoredRow, base_of_row};
+use stored_steps::{BaseFault, StoredBase, StoredRow, base_heading, base_of_row};
 
 // The version, site 0, and the list of the queue `sales`.
 const START: &str = "010000010573616c6573";
@@ -135,4 +135,39 @@ fn the_parts_of_a_base_have_faults(rt: HostRuntime) {
         &[START, STORE, ONE_COUNT, NOTHING, NOTHING],
         dots,
     );
+}
+
+// Asserts why a row of this kind with these parts names no site and queues.
+fn assert_no_heading(rt: &impl Abort, alloc: Global, kind: u32, parts: &[&str], wanted: BaseFault) {
+    let row = row(rt, alloc, kind, parts);
+    let fault = base_heading(alloc, &row).err();
+    drop(row);
+    assert!(*rt; fault == Some(wanted));
+}
+
+#[test]
+fn the_heading_of_a_base_names_its_site_and_queues(rt: HostRuntime) {
+    let alloc = rt.alloc();
+    let row = base_row(&rt, alloc);
+    let (site, queues) = base_heading(alloc, &row).expect(&rt, "a base");
+    let sales = sales_list(&rt, alloc);
+    assert!(rt; site == site_0(&rt) && queues.same(&sales));
+    drop(row);
+    drop(queues);
+    drop(sales);
+}
+
+#[test]
+fn the_heading_of_a_base_has_faults(rt: HostRuntime) {
+    let alloc = rt.alloc();
+    assert_no_heading(&rt, alloc, 2, &[START], BaseFault::NoBase);
+    assert_no_heading(&rt, alloc, 1, &[], BaseFault::BadVersion);
+    assert_no_heading(&rt, alloc, 1, &["024000"], BaseFault::BadVersion);
+    assert_no_heading(&rt, alloc, 1, &["01"], BaseFault::Truncated);
+    assert_no_heading(&rt, alloc, 1, &["0140"], BaseFault::WrongSite);
+    assert_no_heading(&rt, alloc, 1, &["010000"], BaseFault::Truncated);
+    assert_no_heading(&rt, alloc, 1, &["01000000"], BaseFault::WrongList);
+    assert_no_heading(&rt, alloc, 1, &["010000010573616c65"], BaseFault::WrongList);
+    let twice = "010000020573616c65730573616c6573";
+    assert_no_heading(&rt, alloc, 1, &[twice], BaseFault::WrongList);
 }
