@@ -1,0 +1,4 @@
+pub mod SoundSchemas
+pub mod CleanMemory
+pub mod Refused
+pub mod Recovered
