@@ -4,6 +4,7 @@ mod Fields
 mod Reactions
 mod Saying
 mod Events
+mod Comments
 mod Shows
 mod Written
 mod Wording

@@ -6,6 +6,7 @@ use Rattle.std.proofs.lemmas.List.{length-map, length-set}
 use Rattle.std.proofs.lemmas.List.Elements.{recursion_from_All}
 use Rattle.std.proofs.lemmas.List.Recursion.{is_count_by}
 use Rattle.std.proofs.lemmas.Option.{slice_get-get_or, slice_get-map}
+use Rattle.ami_text.specs.Lines.{lines_text}
 use Rattle.site_audit.specs.Runs.{AreGiven, IsRun, names_in}
 use Rattle.site_audit.proofs.Lists.{within_some}
 use Rattle.site_journal.specs.declared.step.Step.{Step}
@@ -16,8 +17,10 @@ use Rattle.sites_world.proofs.Lists.{get_set_other, get_set_same, one_some, same
 use Rattle.script_lines.specs.ScriptLines.{lines_of}
 use Rattle.scripts.specs.LineSteps.{listed_place}
 use Rattle.scripts.specs.Script.{HaveOneText, IsScriptRun, LinesGive, unknown_in}
+use Rattle.event_script.specs.Comments.{IsComment}
 use Rattle.event_script.specs.Lines.{HasLimits, can_say, event_line, is_unsaid, script_of}
 use Rattle.event_script.specs.Shown.{ShowsJournals, ShowsSteps, deed_text}
+use Rattle.event_script.proofs.Comments.{comments_give, lines_behind}
 use Rattle.event_script.proofs.Events.{GivesLine, IsSaid, event_gives, lines_are, pool_grows}
 
 -- ---- events that lines say
@@ -113,31 +116,36 @@ journal_at journals site steps known = by (slice_get journals site) refl (sym (s
     by None is h = (cc)
     by (Some j) is h = (j, is, one_some j.steps steps h)
 
--- the text of a script of events that are one run
-pub run_shows : (journals : List JournalState) (es : List Event) → length journals ≤ 64 → IsRun journals es → AllByRecursion IsSaid es
-    → (text : List ℕ) × LinesGive (listed_place (length journals) (names_in journals)) (new_world (length journals)) 1 (map event_line es) text 0
+-- the text of a script of events that are one run, whose first line has this number
+pub run_shows : (journals : List JournalState) (es : List Event) (number : ℕ) → length journals ≤ 64 → IsRun journals es → AllByRecursion IsSaid es
+    → (text : List ℕ) × LinesGive (listed_place (length journals) (names_in journals)) (new_world (length journals)) number (map event_line es) text 0
     × ShowsSteps (map (λ (j : JournalState). j.steps) journals) 0 es text
-run_shows journals es few is said =
+run_shows journals es number few is said =
     shows (names_in journals) (length journals) es few said (recursion_from_All (λ e. site_of e < length journals) es is.sites)
-    (new_world (length journals)) 1 (map (λ (j : JournalState). j.steps) journals) (length-map journals (λ (j : JournalState). j.steps))
+    (new_world (length journals)) number (map (λ (j : JournalState). j.steps) journals) (length-map journals (λ (j : JournalState). j.steps))
     (λ site steps known. let j = journal_at journals site steps known in
     subst (AreGiven (names_in journals) (new_world (length journals)) es site) j.2 (is.given site j.0 j.1))
 
--- what a run of the script wrote
+-- what a run of comments and the script behind them wrote
 pub script_shows : ((lines : List (List ℕ)) → (journals : List JournalState) → HaveOneText (listed_place (length journals) (names_in journals)) (new_world (length journals)) 1 lines)
+    → (comments : List (List ℕ)) → All IsComment comments
     → (journals : List JournalState) (es : List Event) (before after : List ℕ) (unknown : ℕ) → length journals ≤ 64 → IsRun journals es → All HasLimits es
     → count_by is_unsaid es ≡ 0
-    → IsScriptRun (listed_place (length journals) (names_in journals)) (Some (script_of es)) (Some []) (Some before) (Some after) unknown
+    → IsScriptRun (listed_place (length journals) (names_in journals)) (Some (lines_text comments ++ script_of es)) (Some []) (Some before) (Some after) unknown
     → (unknown ≡ 0) × ShowsJournals journals es before after
-script_shows one journals es before after unknown few is limits none ran =
+script_shows one comments are journals es before after unknown few is limits none ran =
     let said = all_said es none limits in
-    let told = run_shows journals es few is said in
+    let each = recursion_from_All IsComment comments are in
+    let told = run_shows journals es (1 + length comments) few is said in
     let place = listed_place (length journals) (names_in journals) in
     let w = new_world (length journals) in
-    let whole : script_of es ≡ ran.script = ran.read ∙ append-nil ran.script in
-    let same : lines_of ran.script ≡ map event_line es = ap lines_of (sym whole) ∙ lines_are es said in
-    let gives = subst (λ lines. LinesGive place w 1 lines ran.written.text unknown) same ran.written.is_text in
-    let text : ran.written.text ≡ told.0 = (one (map event_line es) journals).text told.0 ran.written.text 0 unknown told.1 gives in (
-      (one (map event_line es) journals).unknown told.0 ran.written.text 0 unknown told.1 gives,
+    let lines = comments ++ map event_line es in
+    let whole : lines_text comments ++ script_of es ≡ ran.script = ran.read ∙ append-nil ran.script in
+    let same : lines_of ran.script ≡ lines =
+    ap lines_of (sym whole) ∙ lines_behind comments (script_of es) each ∙ ap (λ ls. comments ++ ls) (lines_are es said) in
+    let gives = subst (λ ls. LinesGive place w 1 ls ran.written.text unknown) same ran.written.is_text in
+    let shown = comments_give place w 1 comments (map event_line es) told.0 each told.1 in
+    let text : ran.written.text ≡ told.0 = (one lines journals).text told.0 ran.written.text 0 unknown shown gives in (
+      (one lines journals).unknown told.0 ran.written.text 0 unknown shown gives,
       record { text = told.0; shows = told.2; written = ran.written.taken ∙ ap (λ t. before ++ t) text },
     )

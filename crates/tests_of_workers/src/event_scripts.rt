@@ -10,7 +10,7 @@ use std::alloc::Global;
 use std::process::Abort;
 
 // Site 0, which has added a member and cut, and site 1, which has taken its frame or other bytes.
-fn sites(rt: &impl Abort, alloc: Global, taken: Option<&[u8]>) -> [Journaled; 2] {
+pub(crate) fn sites(rt: &impl Abort, alloc: Global, taken: Option<&[u8]>) -> [Journaled; 2] {
     let (mut first, mut second) = (journal(rt, alloc, 0), journal(rt, alloc, 1));
     let asked = add(rt, b"SIP/1", 5);
     drop(called(rt, &mut first, 0, &asked));
