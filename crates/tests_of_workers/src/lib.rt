@@ -37,4 +37,6 @@ mod runs;
 #[cfg(test)]
 mod schedules;
 #[cfg(test)]
+mod store_audits;
+#[cfg(test)]
 mod trials;

@@ -1,0 +1,105 @@
+-- The end of an audit, from its parts.
+use Rattle.std.proofs.Common.{◌≡◌, ◌≤◌, ◌++◌, ◌∙◌, ◌⊎◌, inl, inr, ℕ, List, length, Option, None, Some, Result, Ok, Err, IfOk, slice_get, count_by, refl, sym, ap, subst, arith}
+use Rattle.std.specs.Io.KnownBytes.{Appends}
+use Rattle.std.specs.List.{All}
+use Rattle.std.proofs.lemmas.Option.{slice_get_within}
+use Rattle.ami_text.specs.Lines.{lines_text}
+use Rattle.event_script.specs.Comments.{IsComment}
+use Rattle.event_script.specs.Lines.{HasLimits, is_unsaid, script_of}
+use Rattle.site_audit.specs.Runs.{AreSites, IsRun, IsStuck}
+use Rattle.site_audit.proofs.Lists.{within_some}
+use Rattle.site_journal.specs.Journals.{JournalState}
+use Rattle.sites_world.specs.declared.event.Event.{Event}
+use Rattle.store_audit.specs.declared.audit_end.AuditEnd.{AuditEnd}
+use Rattle.store_audit.specs.declared.audit_end.AuditEnd.TheVariants.{Explained, Stuck}
+use Rattle.store_audit.specs.declared.splitting.Parts.{Parts}
+use Rattle.store_audit.specs.declared.store_audit_fault.StoreAuditFault.{StoreAuditFault}
+use Rattle.store_audit.specs.declared.store_audit_fault.StoreAuditFault.TheVariants as fault
+use Rattle.store_audit.specs.declared.store_journal.StoreJournal.{StoreJournal}
+use Rattle.store_audit.specs.Audits.{EndsAs, IsAuditCause, IsEndSorted, IsExplainedEnd, IsSortedCause, IsStuckEnd}
+use Rattle.store_audit.specs.Headings.{heading_lines}
+use Rattle.store_audit.specs.Stores.{AreParts, IsOrderCause, IsRowAt, IsStepOf, journals_of}
+use Rattle.store_audit.proofs.Sorted.{map_at}
+
+-- what was written ends as the search for events did
+pub ends_as : (parts : Parts) (heading : List ℕ) (events : List Event) (stuck : Option (ℕ × ℕ)) (unsaid : ℕ) (before after : Option (List ℕ)) (end : AuditEnd)
+    → (stuck ≡ None → IsRun parts.journals.items events) → ((site place : ℕ) → stuck ≡ Some (site, place) → IsStuck parts.journals.items site place events)
+    → unsaid ≡ count_by is_unsaid events → All HasLimits events → Appends before after (heading ++ script_of events)
+    → (stuck ≡ None → IsExplainedEnd unsaid end) → ((site place : ℕ) → stuck ≡ Some (site, place) → IsStuckEnd parts site place end)
+    → EndsAs parts heading before after end
+ends_as parts heading events None unsaid before after (Explained count) run stuck counted limits taken explained ended =
+    record { events = events; run = run refl; counted = explained refl ∙ counted; limits = limits; taken = taken }
+ends_as parts heading events None unsaid before after (Stuck site position words) run stuck counted limits taken explained ended = absurd (explained refl)
+ends_as parts heading events (Some (at, place)) unsaid before after (Explained count) run stuck counted limits taken explained ended = absurd (ended at place refl)
+ends_as parts heading events (Some (at, place)) unsaid before after (Stuck site position words) run stuck counted limits taken explained ended =
+    let there = ended at place refl in
+    record {
+      events = events;
+      place = place;
+      row = subst (λ n. IsRowAt parts n place position) (sym there.0) there.1;
+      stuck = subst (λ n. IsStuck parts.journals.items n place events) (sym there.0) (stuck at place refl);
+      limits = limits;
+      taken = taken;
+    }
+
+-- an audit of the parts of stores is one of the stores
+pub sorted_end : (sorted : List StoreJournal) (parts : Parts) (heading : List ℕ) (before after : Option (List ℕ)) (end : AuditEnd) → AreParts sorted parts
+    → heading ≡ lines_text (heading_lines sorted) → All IsComment (heading_lines sorted) → AreSites (journals_of sorted) → length sorted ≤ 64
+    → EndsAs parts heading before after end → IsEndSorted sorted before after end
+sorted_end sorted parts heading before after (Explained unsaid) are text comments sites few ends = λ stores order. record {
+  sorted = sorted;
+  all = record { order = order; sites = sites; few = few };
+  events = ends.events;
+  run = subst (λ (js : List JournalState). IsRun js ends.events) are.journals ends.run;
+  counted = ends.counted;
+  written = record {
+    comments = comments;
+    limits = ends.limits;
+    taken = subst (λ t. Appends before after (t ++ script_of ends.events)) text ends.taken;
+  };
+}
+sorted_end sorted parts heading before after (Stuck site position words) are text comments sites few ends = λ stores order.
+    let found = map_at (λ (s : StoreJournal). s.positions.items) sorted site ends.row.places (sym (ap (λ (l : List (List ℕ)). slice_get l site) are.positions) ∙ ends.row.is) in
+    record {
+      sorted = sorted;
+      all = record { order = order; sites = sites; few = few };
+      events = ends.events;
+      store = found.0;
+      is = found.1;
+      place = ends.place;
+      row = ap (λ (l : List ℕ). slice_get l ends.place) found.2 ∙ ends.row.at;
+      stuck = subst (λ (js : List JournalState). IsStuck js site ends.place ends.events) are.journals ends.stuck;
+      written = record {
+        comments = comments;
+        limits = ends.limits;
+        taken = subst (λ t. Appends before after (t ++ script_of ends.events)) text ends.taken;
+      };
+    }
+
+-- stores that are refused for their order
+pub order_cause : (sorted : List StoreJournal) (before after : Option (List ℕ)) (fault : StoreAuditFault) → after ≡ before → IsOrderCause sorted fault
+    → IsSortedCause sorted before after fault
+order_cause sorted before after (fault.Doubled site) same cause = λ stores order. record { sorted = sorted; order = order; cause = cause; unwritten = same }
+order_cause sorted before after (fault.Missing site) same cause = λ stores order. record { sorted = sorted; order = order; cause = cause; unwritten = same }
+order_cause sorted before after (fault.OtherQueues site) same cause = λ stores order. record { sorted = sorted; order = order; cause = cause; unwritten = same }
+order_cause sorted before after fault.Write same cause = absurd cause
+order_cause sorted before after fault.Memory same cause = absurd cause
+
+-- faults of the writer and of memory
+pub other_cause : (sorted : List StoreJournal) (before after : Option (List ℕ)) (cause : StoreAuditFault) → (cause ≡ fault.Write) ⊎ (cause ≡ fault.Memory)
+    → IsSortedCause sorted before after cause
+other_cause sorted before after cause (inl e) = λ stores order. subst (IsAuditCause stores before after) (sym e) tt
+other_cause sorted before after cause (inr e) = λ stores order. subst (IsAuditCause stores before after) (sym e) tt
+
+-- what follows of a value
+pub if_ok_weaker : {T E : Type 0} {P Q : T → Type 0} (r : Result T E) → ((x : T) → P x → Q x) → IfOk r P → IfOk r Q
+if_ok_weaker (Ok x) f h = f x h
+if_ok_weaker (Err e) f h = h
+
+-- where events are stuck there is a step
+pub stuck_step : (parts : Parts) (site place : ℕ) (events : List Event) → IsStuck parts.journals.items site place events → IsStepOf parts site place
+stuck_step parts site place events stuck =
+    let inside = slice_get_within stuck.at site place stuck.here in
+    let every = stuck.every in
+    let found = within_some parts.journals.items site (omega (arith, inside, every)) in
+    record { j = found.0; is = found.1; less = stuck.fewer found.0 found.1 }

@@ -1,0 +1,5 @@
+mod Walking
+mod Comments
+mod Lines
+mod Sorted
+mod Ending

@@ -1,0 +1,22 @@
+use Rattle.std.proofs.Common.{IsTrue, true≢false, refl, sym, subst, ◌∙◌, inr}
+use Rattle.store_audit.proofs.Walking.{begun}
+use Rattle.store_audit.proofs.reading.begin.Goals as goal
+
+-- the base is that of a site that isn't new
+pub returns-then-not-is_new-clause-fault : goal.returns-then-not-is_new-clause-fault
+returns-then-not-is_new-clause-fault c = inr (record {
+  base = c.in_ok-replica.field-0;
+  base_is = c.in_ok-replica.ensures.read;
+  old = λ new. true≢false (sym (c.is_new.ensures.1 new) ∙ c.if-not-is_new.true);
+})
+
+-- the walk begins with the base
+pub returns-clause-begun : goal.returns-clause-begun
+returns-clause-begun c =
+    let base = c.in_ok-replica.field-0 in
+    let read = c.in_ok-replica.ensures.read in
+    record {
+      base = base;
+      base_is = read;
+      walked = begun base _ c.in_ok-journal.ensures (c.is_new.ensures.0 (subst IsTrue (sym c.if-not-is_new.false) refl)) read.limits.starts refl refl c.new.ensures.items;
+    }
