@@ -8,6 +8,8 @@ mod asks;
 #[cfg(test)]
 mod bases;
 #[cfg(test)]
+mod copies;
+#[cfg(test)]
 mod database_starts;
 #[cfg(test)]
 mod databases;
@@ -19,6 +21,8 @@ mod desks;
 mod kept_rows;
 #[cfg(test)]
 mod launches;
+#[cfg(test)]
+mod listings;
 #[cfg(test)]
 mod memory_store;
 #[cfg(test)]

@@ -1,0 +1,6 @@
+mod RunLengths
+mod Members
+mod Pieces
+mod Endings
+mod DeedCauses
+mod OneText
