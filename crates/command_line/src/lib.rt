@@ -9,6 +9,7 @@ mod reading;
 mod script_input;
 mod secret_file;
 mod site_request;
+mod steps_request;
 mod store_request;
 mod words;
 
@@ -16,4 +17,5 @@ pub use exit::Exit;
 pub use reading::{Request, read_command_line};
 pub use script_input::run_input;
 pub use site_request::{SiteAddresses, SiteRequest};
+pub use steps_request::StepsRequest;
 pub use store_request::StoreRequest;

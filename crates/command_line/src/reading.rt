@@ -1,13 +1,14 @@
-ghost use Rattle.std.specs.Prelude.{◌≡◌, ◌≢◌, IfOk, IfSome, IsSomeAnd, None, Ok, OnErr, OnOk, Some};
-ghost use Rattle.std.specs.Prelude.{map, string_bytes, true};
+ghost use Rattle.std.specs.Prelude.{◌≡◌, ◌≢◌, ◌≤◌, IfOk, IfSome, IsSomeAnd, None, Ok, OnErr, OnOk, Some};
+ghost use Rattle.std.specs.Prelude.{map, string_bytes, true, vec_len};
 
 use crate::exit::Exit;
 use crate::secret_file::{SecretFault, read_secret};
 use crate::site_request::{SiteAddresses, SiteRequest};
+use crate::steps_request::StepsRequest;
 use crate::store_request::StoreRequest;
 use crate::words::{
-    CommandWords, ScriptWords, SecretWord, ServeWords, SessionWords, SiteWords, StoreWords,
-    default_texts, right_words,
+    CommandWords, ScriptWords, SecretWord, ServeWords, SessionWords, SiteWords, StepsWords,
+    StoreWords, default_texts, right_words,
 };
 use ami_session::is_login_word;
 use clap::error::ErrorKind;
@@ -24,6 +25,9 @@ use std::time::Duration;
 
 // How many peers a site may have: all sites, itself among them.
 const MOST_PEERS: usize = 64;
+
+// How many files an audit may have: a store of each site.
+const MOST_FILES: usize = 64;
 
 // The least number of bytes of the secret that sites share.
 const LEAST_LINK_SECRET: usize = 16;
@@ -42,6 +46,10 @@ pub enum Request {
     Serve(ServerSettings, QueueList, Option<StoreRequest>),
     /// To serve one site that is linked to others.
     Site(SiteRequest),
+    /// To audit the stores in these files, 1 to 64.
+    Audit(Vec<String>),
+    /// To list the steps of a store.
+    Steps(StepsRequest),
     /// Nothing more: all output is printed, and the program ends with this exit.
     Done(Exit),
 }
@@ -58,10 +66,10 @@ enum Refusal {
 }
 
 /// Reads the command line, and checks its words in this order: the words by clap; `--keep` without `--store`; the number of sites of a
-/// script, the address of a server, or the addresses of a site for clients, for links and of its peers, and their number; the list of
-/// queues; the file of the secret; user, secret and greeting; of a site the file of the secret of links, and that secret. Prints the first
-/// error to standard error, and returns `Done(WrongWords)`; out of memory, and a file that can't be read, are `Done(Failed)`. Prints help
-/// and version to standard output. `Err`: that printing failed (the words are this project's own).
+/// script, the address of a server, the addresses of a site for clients, for links and of its peers, and their number, or the number of
+/// files of an audit; the list of queues; the file of the secret; user, secret and greeting; of a site the file of the secret of links, and
+/// that secret. Prints the first error to standard error, and returns `Done(WrongWords)`; out of memory, and a file that can't be read, are
+/// `Done(Failed)`. Prints help and version to standard output. `Err`: that printing failed (the words are this project's own).
 pub fn read_command_line<R: Env + Files + AllocGlobal + Print + Eprint>(
     rt: &R,
 ) -> io::Result<Request> {
@@ -108,6 +116,8 @@ fn request_or_refused<R: Files + AllocGlobal + Eprint>(
         CommandWords::Script(words) => script_request(rt.alloc(), words),
         CommandWords::Serve(words) => serve_request(rt, words),
         CommandWords::Site(words) => site_request(rt, words),
+        CommandWords::Audit(files) => audit_request(rt.alloc(), files),
+        CommandWords::Steps(words) => steps_request(rt.alloc(), *words),
     };
     drop(words);
     match request {
@@ -236,6 +246,34 @@ fn site_request<R: Files + AllocGlobal>(rt: &R, words: &SiteWords<'_>) -> Result
         store,
         addresses,
     }))
+}
+
+fn audit_request(alloc: Global, files: &[&str]) -> Result<Request, Refusal>
+    ensures files { (paths : _) → result ≡ Ok (Request.Audit paths)
+        → map string_bytes paths.items ≡ map (λ file. file.now) files.now }
+    ensures most { (paths : _) → result ≡ Ok (Request.Audit paths) → vec_len paths ≤ MOST_FILES }
+{
+    if files.len() > MOST_FILES {
+        return Err(Refusal::Wrong("more than 64 files"));
+    }
+    match copies_of(alloc, files) {
+        Ok(paths) => Ok(Request::Audit(paths)),
+        Err(_) => Err(Refusal::Memory),
+    }
+}
+
+fn steps_request(alloc: Global, words: StepsWords<'_>) -> Result<Request, Refusal>
+    ensures path { (it : _) → result ≡ Ok (Request.Steps it)
+        → string_bytes it.path ≡ words.entry.path.now }
+    ensures frames { (it : _) → result ≡ Ok (Request.Steps it) → it.frames ≡ words.entry.frames }
+{
+    match String::from_str(alloc, words.path) {
+        Ok(path) => Ok(Request::Steps(StepsRequest {
+            path,
+            frames: words.frames,
+        })),
+        Err(_) => Err(Refusal::Memory),
+    }
 }
 
 // Checks that no rows are kept where nothing is stored.

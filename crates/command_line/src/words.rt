@@ -14,6 +14,9 @@ const SITE_EXAMPLE: &str =
     "Example: queue_sites site 0 admin sales support --secret-file secret --link-secret-file links \
     --store site-0.db --links 10.0.0.1:7038 --peer 10.0.0.2:7038";
 
+// The last line of the help of `audit`.
+const AUDIT_EXAMPLE: &str = "Example: queue_sites audit site-0.db site-1.db > events";
+
 // How many clients a site answers at once, and how long they may be silent, where `site` is given nothing else.
 const SITE_PLACES: &str = "16";
 
@@ -78,6 +81,13 @@ pub(crate) struct SiteWords<'a> {
     pub queues: Vec<&'a str>,
 }
 
+// The words of `steps`.
+#[derive(Clone, Copy)]
+pub(crate) struct StepsWords<'a> {
+    pub path: &'a str,
+    pub frames: bool,
+}
+
 // The defaults of options of sessions, as text.
 #[derive(Clone, Copy)]
 struct SessionDefaults<'a> {
@@ -100,6 +110,9 @@ pub(crate) enum CommandWords<'a> {
     Script(ScriptWords<'a>),
     Serve(ServeWords<'a>),
     Site(SiteWords<'a>),
+    // The files of stores.
+    Audit(Vec<&'a str>),
+    Steps(StepsWords<'a>),
 }
 
 impl Defaults {
@@ -164,6 +177,12 @@ fn words_of<'a>(alloc: Global, matches: &ArgMatches<'a>) -> Result<CommandWords<
     }
     if let Some(site) = matches.subcommand_matches("site") {
         return site_words(alloc, site).map(CommandWords::Site);
+    }
+    if let Some(audit) = matches.subcommand_matches("audit") {
+        return strings_of(alloc, audit, "FILE").map(CommandWords::Audit);
+    }
+    if let Some(steps) = matches.subcommand_matches("steps") {
+        return Ok(CommandWords::Steps(steps_words(steps)));
     }
     match matches.subcommand_matches("script") {
         Some(script) => script_words(alloc, script).map(CommandWords::Script),
@@ -250,6 +269,20 @@ fn site_words<'a>(alloc: Global, site: &ArgMatches<'a>) -> Result<SiteWords<'a>,
     })
 }
 
+fn steps_words<'a>(steps: &ArgMatches<'a>) -> StepsWords<'a>
+    ensures path { (text : _) → first_value (found_of steps.now) (codes "FILE") ≡ Some text
+        → result.path.now ≡ text }
+    ensures frames { one_text (found_of steps.now) (codes "frames") ≡ Some (codes "true")
+        → result.frames ≡ true }
+    ensures words { one_text (found_of steps.now) (codes "frames") ≡ Some (codes "false")
+        → result.frames ≡ false }
+{
+    StepsWords {
+        path: steps.get_str("FILE").unwrap_or(""),
+        frames: steps.get_flag("frames"),
+    }
+}
+
 // The words of an argument that may stand several times.
 fn strings_of<'a>(
     alloc: Global,
@@ -312,6 +345,32 @@ fn script<'a>(alloc: Global) -> Result<Command<'a>, AllocError> {
         .about("Runs a script from standard input")
         .arg(sites(alloc, "SITES", "How many sites there are, 1 to 64", 1, 64))?
         .arg(queues(alloc))
+}
+
+// The files of stores.
+fn files<'a>(alloc: Global) -> Arg<'a> {
+    Arg::new(alloc, "FILE")
+        .help("The stores of all sites, 1 to 64 files in any order")
+        .required(true)
+        .num_args(1..)
+        .action(ArgAction::Append)
+}
+
+fn audit<'a>(alloc: Global) -> Result<Command<'a>, AllocError> {
+    Command::new(alloc, "audit")
+        .about("Writes one list of events that explains the stores of all sites, as a script")
+        .after_help(AUDIT_EXAMPLE)
+        .arg(files(alloc))
+}
+
+fn steps<'a>(alloc: Global) -> Result<Command<'a>, AllocError> {
+    let file = Arg::new(alloc, "FILE")
+        .help("The file of the store")
+        .required(true);
+    Command::new(alloc, "steps")
+        .about("Writes the steps of a store in words")
+        .arg(file)?
+        .arg(flag(alloc, "frames", "Writes each frame in hexadecimal, too"))
 }
 
 fn number<'a>(
@@ -474,6 +533,8 @@ fn subcommands<'a>(
     subcommands.push(script(alloc)?)?;
     subcommands.push(serve(alloc, defaults, is_in_file)?)?;
     subcommands.push(site(alloc, defaults)?)?;
+    subcommands.push(audit(alloc)?)?;
+    subcommands.push(steps(alloc)?)?;
     Ok(subcommands)
 }
 

@@ -1,8 +1,10 @@
-//! The program `queue_sites`: reads its command line, and runs a script from standard input, or serves sites until it is stopped.
+//! The program `queue_sites`: reads its command line, and runs a script from standard input, reports on the stores of sites, or serves sites
+//! until it is stopped.
 #![tactic(auto)]
 
 mod linking;
 mod logging;
+mod reporting;
 mod serving;
 mod storing;
 
@@ -49,6 +51,8 @@ fn run<
     let request = read_command_line(rt)?;
     match &request {
         Request::Script(sites, list) => exit_of(rt, run_input(rt, *sites, list)),
+        Request::Audit(paths) => reporting::audit(rt, paths.as_slice()),
+        Request::Steps(request) => reporting::list(rt, request),
         Request::Done(exit) => Ok(*exit),
         _ => serve_logged(rt, host, &request),
     }

@@ -8,8 +8,9 @@ use ami_text::StdSink;
 use command_line::Exit;
 use event_log::EventLog;
 use replica::QueueList;
-use server::{LAST_PORT, MOST_PLACES, MOST_SERVED_SITES, serve_sites};
+use server::{LAST_PORT, MOST_PLACES, MOST_SERVED_SITES};
 use serving_clients::ServerSettings;
+use site_service::serve_new_sites;
 use std::alloc::Global;
 use std::io;
 use std::net::{Net, TcpListener, TcpStream};
@@ -57,11 +58,8 @@ pub(crate) fn serve<
         return refuse_numbers(rt);
     }
     let mut log = StdSink::new(io::writer(rt));
-    match serve_sites(rt, rt.alloc(), settings, list, None, &mut log, events) {
-        Ok(journals) => {
-            drop(journals);
-            Ok(Exit::Done)
-        }
+    match serve_new_sites(rt, rt.alloc(), settings, list, None, &mut log, events) {
+        Ok(()) => Ok(Exit::Done),
         Err(fault) => failed(rt, &fault),
     }
 }

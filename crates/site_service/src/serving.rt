@@ -1,4 +1,4 @@
-//! The sites of a server whose stores are files.
+//! The sites of a server, whose stores are files, or which store nothing.
 ghost use Rattle.std.specs.List.{All};
 ghost use Rattle.std.specs.Prelude.{◌≡◌, ◌↔◌, ◌+◌, ◌<◌, ◌≤◌, ℕ, [], IfErr, IfOk, IsErrOf, OnErr};
 ghost use Rattle.std.specs.Prelude.{IsTrue, OnOk, false, true, vec_len};
@@ -19,7 +19,8 @@ use dots::SiteId;
 use event_log::EventLog;
 use replica::QueueList;
 use server::{
-    LAST_PORT, MOST_PLACES, MOST_SERVED_SITES, ServeSitesFault, StoredStart, serve_stored_sites,
+    LAST_PORT, MOST_PLACES, MOST_SERVED_SITES, ServeSitesFault, StoredStart, serve_sites,
+    serve_stored_sites,
 };
 use serving_clients::ServerSettings;
 use site_files::{SiteFile, StoreInFile, StorePath, file_of_site};
@@ -159,6 +160,58 @@ where
     match serve_stored_sites::<R, D, W>(rt, host.alloc(), settings, starts, sessions, log, events) {
         Ok(ends) => {
             drop(ends);
+            Ok(())
+        }
+        Err(fault) => Err(ServiceFault::Server(fault)),
+    }
+}
+
+/// Serves new sites at once, which store nothing, as `serve_sites` of `server` does, and drops their journals in the end.
+///
+/// It returns Ok when each site has taken as many connections as `sessions` says; without a number it runs until the program is stopped.
+///
+/// Errors: `Server`, with those of `serve_sites`.
+pub fn serve_new_sites<
+    R: Net<Listener = TcpListener, Stream = TcpStream> + Threads + Wait + Clock + Sync,
+    W: Sink,
+>(
+    rt: &R,
+    alloc: Global,
+    settings: &ServerSettings,
+    list: &QueueList,
+    sessions: Option<u32>,
+    log: &mut W,
+    events: &Arc<EventLog, Global>,
+) -> Result<(), ServiceFault>
+    requires some { 1 ≤ settings.now.sites }
+    requires most { settings.now.sites ≤ MOST_SERVED_SITES }
+    requires answered { 1 ≤ settings.now.places }
+    requires places { settings.now.places ≤ MOST_PLACES }
+    requires first { 1 ≤ settings.now.port }
+    requires last { settings.now.port ≤ LAST_PORT }
+    requires log { W.failed log.old ≡ false }
+    ensures written { OnOk result (Appends (W.taken log.old) (W.taken log.new)
+        (listening_lines settings.now.address settings.now.port settings.now.sites)) }
+    ensures kind { IfErr result (λ fault. (cause : ServeSitesFault)
+        × (fault ≡ ServiceFault.Server cause)) }
+    ensures port { (port : ℕ) (reason : Error)
+        → IsErrOf result (ServiceFault.Server (ServeSitesFault.CannotListen port reason))
+        → (settings.now.port ≤ port) × (port < settings.now.port + settings.now.sites) }
+    ensures unwritten { (port : ℕ) (reason : Error)
+        → IsErrOf result (ServiceFault.Server (ServeSitesFault.CannotListen port reason))
+        → log.new ≡ log.old }
+    ensures no_thread { IsErrOf result (ServiceFault.Server ServeSitesFault.NoThread)
+        → Appends (W.taken log.old) (W.taken log.new)
+        (listening_lines settings.now.address settings.now.port settings.now.sites) }
+    ensures begun { OnErr result (HasTaken (W.taken log.old) (W.taken log.new)
+        (listening_lines settings.now.address settings.now.port settings.now.sites)) }
+    ensures write { IsErrOf result (ServiceFault.Server ServeSitesFault.Write)
+        ↔ (W.failed log.new ≡ true) }
+    ensures works { OnOk result (W.failed log.new ≡ false) }
+{
+    match serve_sites(rt, alloc, settings, list, sessions, log, events) {
+        Ok(journals) => {
+            drop(journals);
             Ok(())
         }
         Err(fault) => Err(ServiceFault::Server(fault)),
