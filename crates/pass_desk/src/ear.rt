@@ -15,7 +15,7 @@ const WHOLE_MILLIS: u64 = 5_000;
 const HURRIED_MILLIS: u64 = 200;
 
 // How long an ear that rests does so after each ring, in milliseconds.
-const REST_MILLIS: u64 = 1;
+const REST_MILLIS: u64 = 10;
 
 /// The ear of the thread that hears a bell (this project's own). It hears rings in *rounds*: a round ends when the bell has ended, or when a
 /// *whole* is due, a frame of all that the site knows. While a peer is behind the site, a whole is due 5 seconds after the last one, or 0.2
@@ -73,7 +73,7 @@ impl<'a> Ear<'a> {
         }
     }
 
-    /// An ear for this bell, as `new` makes it, that rests for a millisecond after each ring.
+    /// An ear for this bell, as `new` makes it, that rests for 10 milliseconds after each ring.
     pub fn resting(bell: &'a SiteBell) -> Ear<'a>
         ensures rings { result.rings ≡ 0 }
         ensures ended { result.ended ≡ false }
@@ -173,7 +173,7 @@ impl<'a, R: Wait + Clock> Bell<R> for Ear<'a> {
     ghost ended = { λ ear. ear.ended };
 
     /// Waits for a ring. `false`: the round has ended, as one does that has heard 2^40 rings. An ear that rests has heard the last ring of its
-    /// round a millisecond before, at least.
+    /// round 10 milliseconds before, at least.
     fn wait(&mut self, rt: &R) -> bool {
         if self.rests && self.heard > 0 {
             thread::sleep(rt, Duration::from_millis(REST_MILLIS));

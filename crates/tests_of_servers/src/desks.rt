@@ -189,7 +189,7 @@ fn a_whole_is_due_while_a_peer_is_behind(rt: HostRuntime) {
 }
 
 #[test]
-fn an_ear_that_rests_hears_a_ring_a_millisecond_after_another(rt: HostRuntime) {
+fn an_ear_that_rests_hears_a_ring_10_ms_after_another(rt: HostRuntime) {
     let bell = SiteBell::new();
     let mut ear = Ear::resting(&bell);
     bell.ring(&rt);
@@ -198,7 +198,7 @@ fn an_ear_that_rests_hears_a_ring_a_millisecond_after_another(rt: HostRuntime) {
     let begun = Instant::now(&rt).expect(&rt, "a clock");
     assert!(&rt; ear.wait(&rt));
     let passed = begun.elapsed(&rt).expect(&rt, "a clock");
-    assert!(&rt; passed >= Duration::from_millis(1));
+    assert!(&rt; passed >= Duration::from_millis(10));
     bell.end(&rt);
     assert!(&rt; !ear.wait(&rt) && ear.has_bell_ended());
 }
