@@ -5,6 +5,7 @@ reported as the rest.
 """
 import os
 import subprocess
+import textwrap
 import threading
 import time
 
@@ -14,17 +15,22 @@ from watch import Watch
 
 MEMORY_OF_A_PROOF = 4_500_000_000
 PARTS = ("proof", "tests", "wrong bodies", "runs")
+LEAST_SHOWN = 6  # minutes: what takes less shares a line
 
 
 def lines_of(table, all_seconds):
-    """The table of seconds by crate and part, in minutes of one processor: a line a crate, the longest first."""
+    """The table of seconds by crate and part, in minutes of one processor: a line for each crate that takes long, the longest first, and one
+    for the others, whose minutes stand below it."""
     minutes = {crate: [table.get((crate, part), 0) / 60 for part in PARTS] for crate, _ in table}
-    sums = [sum(it) for it in zip(*minutes.values())] or [0] * len(PARTS)
-    rows = [[f"`{crate}`", *it, sum(it)] for crate, it in sorted(minutes.items(), key=lambda row: -sum(row[1]))]
+    summed = lambda many: [sum(it) for it in zip(*many)] or [0] * len(PARTS)
+    sums, short = summed(minutes.values()), [it for it in minutes.values() if sum(it) < LEAST_SHOWN]
+    long = sorted((it for it in minutes.items() if sum(it[1]) >= LEAST_SHOWN), key=lambda row: -sum(row[1]))
+    rows = [[f"`{crate}`", *it, sum(it)] for crate, it in long] + [[f"{len(short)} others", *summed(short), sum(summed(short))]]
     rows += [["rest", *[None] * len(PARTS), all_seconds / 60 - sum(sums)], ["all", *sums, all_seconds / 60]]
     shown = lambda it: it if isinstance(it, str) else "" if it is None else f"{it:.1f}"
     lines = [["crate", *PARTS, "all"], ["---", *["--:"] * (len(PARTS) + 1)], *[[shown(it) for it in row] for row in rows]]
-    return ["| " + " | ".join(line) + " |" for line in lines]
+    others = [f"`{it}` {sum(minutes[it]):.1f}" for it in sorted(minutes) if sum(minutes[it]) < LEAST_SHOWN]
+    return ["| " + " | ".join(line) + " |" for line in lines] + ["", *textwrap.wrap(f"The others: {', '.join(others)}.", 120)]
 
 
 def one_job_each():

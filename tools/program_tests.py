@@ -173,6 +173,22 @@ def wrong_words_of_site(program):
         check(program, [*right, option], 1, told=no_secret)
 
 
+def wrong_words_of_reports(program):
+    """Errors for words of `audit` and `steps` that are missing, or too many."""
+    missing = b"required arguments were not provided"
+    check(program, ["audit"], 2, told=missing)
+    check(program, ["audit", "--frames", "none"], 2, told=b"unexpected argument '--frames'")
+    check(program, ["audit", *["none"] * 65], 2, told=b"queue_sites: more than 64 files\n")
+    check(program, ["audit", *["none"] * 64], 1, told=b"queue_sites: store none: cannot read: " + NO_FILE)
+    check(program, ["steps"], 2, told=missing)
+    check(program, ["steps", "--frames"], 2, told=missing)
+    check(program, ["steps", "none", "more"], 2, told=b"unexpected argument 'more'")
+    for words in (["steps", "none"], ["steps", "none", "--frames"], ["steps", "--frames", "none"], ["audit", "none", "more"]):
+        check(program, words, 1, told=b"queue_sites: store none: cannot read: " + NO_FILE)
+    check(program, ["audit", "--help"], 0, printed=b"Usage: %b audit <FILE>..." % os.path.basename(program).encode())
+    check(program, ["steps", "--help"], 0, printed=b"--frames")
+
+
 def failures(program, room):
     """Errors for a script that can't be read, is too long, or whose output can't be written."""
     directory = os.open(room, os.O_RDONLY)
@@ -315,6 +331,7 @@ def run_all(is_gate_passed=False):
             statuses(program)
             wrong_words(program)
             wrong_words_of_site(program)
+            wrong_words_of_reports(program)
             for errors in (errors_of_serve, errors_of_site):
                 with tempfile.TemporaryDirectory() as files:
                     errors(program, files)

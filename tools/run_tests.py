@@ -1,8 +1,8 @@
 """Runs the tests, and reports at the end what was run and how long each part took.
 
     ./test                     the whole gate, the wrong bodies, the program from the command line, the cases, sites under
-                               random workloads, the server, with stores too, linked sites, and tests with each
-                               allocation refused
+                               random workloads, the server, with stores too, linked sites, audits, and tests with
+                               each allocation refused
     ./test CRATE..             what a change of these crates can break: layout, proofs, tests and stored runs of these and
                                of the crates that stand on them, over the work that earlier checks kept, and the
                                wrong bodies of these
@@ -20,6 +20,7 @@ import sys
 import time
 import traceback
 
+import audit_tests
 import build
 import cases
 import gate
@@ -100,6 +101,7 @@ def run_server(parts):
     parts.run("the server, and clients of it", part_of(server_tests.run_all))
     parts.run("servers with stores", part_of(store_tests.run_all))
     parts.run("sites that are linked", part_of(site_link_tests.run_all))
+    parts.run("audits of stores", part_of(audit_tests.run_all))
 
 
 def run_without_memory(parts, crates):
