@@ -1,5 +1,5 @@
 -- Bytes spell one base alone.
-use Rattle.std.proofs.Common.{◌≡◌, ◌≤◌, ◌<◌, ◌^◌, ◌+◌, ℕ, List, [], ◌∷◌, ◌++◌, length, take, drop, refl, sym, ap, ap₂, subst, subst₂, ◌∙◌, append_assoc, arith, length-append}
+use Rattle.std.proofs.Common.{◌≡◌, ◌≤◌, ◌<◌, ◌^◌, ℕ, List, [], ◌∷◌, ◌++◌, length, take, refl, sym, ap, ap₂, subst, subst₂, ◌∙◌, append_assoc, arith, length-append}
 use Rattle.std.specs.Int.{w16, w64, from_be_bytes, to_be_bytes}
 use Rattle.std.specs.FinSet as set
 use Rattle.std.specs.List.{flat_map}
@@ -8,7 +8,6 @@ use Rattle.std.proofs.Math.Seq.{take-append_seam}
 use Rattle.operations.specs.Totals.{join_of, totals_of}
 use Rattle.operations.specs.Conditions.{IsConditionBelow, condition_joined}
 use Rattle.site_totals.specs.Raising.{number_of}
-use Rattle.dots.specs.declared.calls.Calls.{Calls}
 use Rattle.delta.specs.DeltaStates.{DeltaState, IsSame}
 use Rattle.delta.specs.Frames.{frame_of}
 use Rattle.delta.specs.Joining.{IsJoinOf}
@@ -16,11 +15,10 @@ use Rattle.delta_codec.specs.Frames.{Spells}
 use Rattle.delta_codec.proofs.FrameLaws.{both_found, one_frame}
 use Rattle.replica.specs.Keeping.{IsBelow}
 use Rattle.replica.specs.Queues.{AreQueues}
-use Rattle.replica.specs.Site.{IsSameSite, SiteState}
-use Rattle.replica.proofs.SameSites.{delta_through, delta_turned, site_through, site_turned}
+use Rattle.replica.proofs.SameSites.{delta_through, delta_turned, site_through}
 use Rattle.stored_steps.specs.declared.base.StoredBase.{StoredBase}
-use Rattle.stored_steps.specs.declared.limits.TheConstants.{BASE_VERSION, NAME_BYTES}
-use Rattle.stored_steps.specs.Bases.{HasLimits, IsBase, IsReadBase, IsRowOfBase, IsSameBase, SpellsBase, SpellsDelta, head_bytes, last_of, list_bytes, name_bytes, numbers_bytes, with_parts}
+use Rattle.stored_steps.specs.declared.limits.TheConstants.{BASE_VERSION}
+use Rattle.stored_steps.specs.Bases.{HasLimits, IsReadBase, IsRowOfBase, IsSameBase, SpellsBase, SpellsDelta, head_bytes, last_of, list_bytes, name_bytes, numbers_bytes, with_parts}
 use Rattle.stored_steps.specs.Stored.{Stored}
 
 -- what stands at the front, and what follows it, is the same where the fronts are as long
@@ -36,19 +34,19 @@ split (x ∷ xs) [] r s len e = absurd (omega arith)
 
 -- ---- numbers
 
-one_number : (m n : ℕ) (r s : List ℕ) → m < 2 ^ 64 → n < 2 ^ 64 → to_be_bytes w64 m ++ r ≡ to_be_bytes w64 n ++ s → (m ≡ n) × (r ≡ s)
+pub one_number : (m n : ℕ) (r s : List ℕ) → m < 2 ^ 64 → n < 2 ^ 64 → to_be_bytes w64 m ++ r ≡ to_be_bytes w64 n ++ s → (m ≡ n) × (r ≡ s)
 one_number m n r s in_m in_n e =
     let both = split (to_be_bytes w64 m) (to_be_bytes w64 n) r s refl e in
     (sym (from_be_bytes-to_be_bytes_8 m in_m) ∙ ap (from_be_bytes w64) both.0 ∙ from_be_bytes-to_be_bytes_8 n in_n, both.1)
 
-one_size : (m n : ℕ) (r s : List ℕ) → m < 2 ^ 16 → n < 2 ^ 16 → to_be_bytes w16 m ++ r ≡ to_be_bytes w16 n ++ s → (m ≡ n) × (r ≡ s)
+pub one_size : (m n : ℕ) (r s : List ℕ) → m < 2 ^ 16 → n < 2 ^ 16 → to_be_bytes w16 m ++ r ≡ to_be_bytes w16 n ++ s → (m ≡ n) × (r ≡ s)
 one_size m n r s in_m in_n e =
     let both = split (to_be_bytes w16 m) (to_be_bytes w16 n) r s refl e in
     (sym (from_be_bytes-to_be_bytes_2 m in_m) ∙ ap (from_be_bytes w16) both.0 ∙ from_be_bytes-to_be_bytes_2 n in_n, both.1)
 
 -- ---- lists of queues
 
-one_names : (a b : List (List ℕ)) (r s : List ℕ) → length a ≡ length b → flat_map name_bytes a ++ r ≡ flat_map name_bytes b ++ s → (a ≡ b) × (r ≡ s)
+pub one_names : (a b : List (List ℕ)) (r s : List ℕ) → length a ≡ length b → flat_map name_bytes a ++ r ≡ flat_map name_bytes b ++ s → (a ≡ b) × (r ≡ s)
 one_names [] [] r s len e = (refl, e)
 one_names [] (y ∷ b) r s len e = absurd (omega arith)
 one_names (x ∷ a) [] r s len e = absurd (omega arith)
@@ -84,11 +82,11 @@ one_delta site d e a b r s first second same =
 
 -- ---- bases
 
-abbrev behind_list : StoredBase → List ℕ → List ℕ
+abbrev pub behind_list : StoredBase → List ℕ → List ℕ
 behind_list base frames = base.name ++ (numbers_bytes base.starts (last_of base.replica) ++ frames)
 
 -- the bytes of a base, part by part
-parted : (base : StoredBase) (frames : List ℕ) → head_bytes base ++ frames ≡ BASE_VERSION ∷ base.replica.site ∷ (list_bytes base.replica.names ++ behind_list base frames)
+pub parted : (base : StoredBase) (frames : List ℕ) → head_bytes base ++ frames ≡ BASE_VERSION ∷ base.replica.site ∷ (list_bytes base.replica.names ++ behind_list base frames)
 parted base frames =
     ap (λ (l : List ℕ). BASE_VERSION ∷ base.replica.site ∷ l)
     (append_assoc (list_bytes base.replica.names) (base.name ++ numbers_bytes base.starts (last_of base.replica)) frames

@@ -4,6 +4,8 @@ pub mod RowFaults
 pub mod ReadRows
 pub mod BaseLaws
 pub mod Writing
+pub mod BaseCauses
+pub mod Headings
 pub mod Reading
 pub mod RestoringLaws
 pub mod PartsLaws

@@ -1,21 +1,19 @@
 -- What is written of a base.
-use Rattle.std.proofs.Common.{◌≡◌, ◌≤◌, ◌<◌, ◌^◌, ◌+◌, ℕ, Bool, true, false, List, [], ◌∷◌, ◌++◌, length, get_or, take, Result, Ok, Err, OnOk, refl, sym, ap, subst, ◌∙◌, append_assoc, append-nil, arith, if◌then◌else◌}
+use Rattle.std.proofs.Common.{◌≡◌, ◌<◌, ◌^◌, ◌+◌, ℕ, List, [], ◌∷◌, ◌++◌, length, get_or, take, Result, Ok, Err, OnOk, sym, ap, ◌∙◌, append_assoc, append-nil, arith, if◌then◌else◌}
 use Rattle.std.specs.Prelude.{is_ok}
 use Rattle.std.specs.Int.{w16, w64, to_be_bytes}
 use Rattle.std.specs.List.{flat_map}
 use Rattle.std.proofs.lemmas.Grind.{flat_map-append}
 use Rattle.std.proofs.lemmas.List.{take_all, take_more}
-use Rattle.dots.specs.declared.limits.TheConstants.{MOST_COUNT, QUEUES}
 use Rattle.delta.specs.DeltaStates.{DeltaState}
 use Rattle.delta.specs.Frames.{IsInRanges, frame_of}
 use Rattle.replica.specs.Keeping.{AreInQueues, IsKept}
 use Rattle.replica.specs.Queues.{AreQueues}
-use Rattle.replica.specs.Site.{SiteState}
 use Rattle.replica.proofs.FramedSites.{in_ranges}
 use Rattle.stored_steps.specs.declared.base.StoredBase.{StoredBase}
 use Rattle.stored_steps.specs.declared.limits.TheConstants.{BASE_VERSION, NAME_BYTES}
 use Rattle.stored_steps.specs.Appending.{AppendsDelta}
-use Rattle.stored_steps.specs.Bases.{HasLimits, IsBase, SpellsBase, SpellsDelta, head_bytes, last_of, list_bytes, name_bytes, numbers_bytes}
+use Rattle.stored_steps.specs.Bases.{IsBase, SpellsBase, SpellsDelta, head_bytes, last_of, list_bytes, name_bytes, numbers_bytes}
 
 -- one name more is written
 pub names_more : (start out new : List ℕ) (names : List (List ℕ)) (i : ℕ) → i < length names → out ≡ start ++ flat_map name_bytes (take i names) → new ≡ out ++ name_bytes (get_or names i [])

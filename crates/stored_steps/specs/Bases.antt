@@ -1,5 +1,5 @@
 -- The bytes of a base: what a store keeps of a site before its steps. Numbers are big-endian.
-use Rattle.std.specs.Prelude.{ℕ, ◌≡◌, ◌<◌, ◌^◌, List, ◌∷◌, ◌++◌, length}
+use Rattle.std.specs.Prelude.{ℕ, ◌≡◌, ◌≢◌, ◌<◌, ◌^◌, List, ◌∷◌, ◌++◌, length}
 use Rattle.std.specs.Int.{w16, w64, to_be_bytes}
 use Rattle.std.specs.List.{flat_map}
 use Rattle.delta.specs.DeltaStates.{DeltaState}
@@ -7,8 +7,10 @@ use Rattle.delta.specs.Frames.{frame_of}
 use Rattle.delta_codec.specs.Frames.{Spells}
 use Rattle.replica.specs.Keeping.{IsBelow, IsKept}
 use Rattle.replica.specs.Queues.{AreQueues}
-use Rattle.replica.specs.Restoring.{IsRestored}
+use Rattle.replica.specs.Restoring.{IsRestoreCause, IsRestored}
 use Rattle.replica.specs.Site.{IsSameSite, SiteState}
+use Rattle.replica.specs.declared.restore_fault.RestoreFault.{RestoreFault}
+use Rattle.replica.specs.declared.restore_fault.RestoreFault.TheVariants as restore
 use Rattle.stored_steps.specs.declared.base.StoredBase.{StoredBase}
 use Rattle.stored_steps.specs.declared.limits.TheConstants.{BASE_VERSION, NAME_BYTES}
 use Rattle.stored_steps.specs.declared.row_kind.RowKind.TheVariants.{Base}
@@ -77,12 +79,13 @@ pub record IsSameBase (base other : StoredBase) : Type 0 where
 abbrev pub with_parts : SiteState → StoredBase → StoredBase
 with_parts parts base = record { replica = parts; name = base.name; starts = base.starts }
 
--- A base is what its row says: its replica is made of the parts that are spelled there, and says what they say where their buffer is
--- below their state.
+-- A base is what its row says: its replica is made of the parts that are spelled there, which are refused for no cause, and says what
+-- they say where their buffer is below their state.
 pub record IsReadBase (row : Stored) (base : StoredBase) : Type 0 where
   pub parts : SiteState
   pub kind : row.kind ≡ kind_number Base
   pub limits : HasLimits (with_parts parts base)
   pub spelled : SpellsBase (with_parts parts base) row.bytes
+  pub accepted : (fault : RestoreFault) → fault ≢ restore.Memory → IsRestoreCause parts fault → ⊥
   pub restored : IsRestored parts base.replica
   pub same : IsBelow parts.pending parts.state → IsSameSite parts base.replica

@@ -7,4 +7,5 @@ pub mod RowsLead
 pub mod Bases
 pub mod Appending
 pub mod BaseReading
+pub mod BaseFaults
 pub mod Restoring

@@ -1,11 +1,21 @@
 //! A row as a base.
-ghost use Rattle.std.specs.Prelude.{◌≡◌, ◌↔◌, ◌<◌, ◌^◌, ◌∷◌, ◌++◌, [], IfOk, IfSome, IsTrue, OnOk};
+ghost use Rattle.std.specs.Prelude.{◌≡◌, ◌≢◌, ◌↔◌, ◌⊎◌, ◌<◌, ◌^◌, ◌∷◌, ◌++◌, [], length};
+ghost use Rattle.std.specs.Prelude.{IfErr, IfNone, IfOk, IfSome, IsTrue, OnOk};
 ghost use Rattle.std.specs.Int.{w64, to_be_bytes};
+ghost use Rattle.std.specs.List.{flat_map};
 ghost use Rattle.stored_steps.specs.declared.base.StoredBase.{StoredBase};
+ghost use Rattle.dots.specs.Values.{IsSite};
 ghost use Rattle.delta.specs.Frames.{frame_of};
 ghost use Rattle.replica.specs.Queues.{AreQueues};
 ghost use Rattle.stored_steps.specs.declared.limits.TheConstants.{BASE_VERSION};
 ghost use Rattle.stored_steps.specs.Bases.{IsReadBase, IsRowOfBase, IsSameBase, list_bytes};
+ghost use Rattle.stored_steps.specs.Bases.{name_bytes};
+ghost use Rattle.stored_steps.specs.BaseFaults.{HasNoBase, HasNoHeading, IsBaseRowCause};
+ghost use Rattle.stored_steps.specs.BaseFaults.{IsHeading, IsHeadingCause, head_size};
+ghost use Rattle.stored_steps.specs.BaseFaults.{HasFewerNames, HasNoName, HasOtherList};
+ghost use Rattle.stored_steps.specs.BaseFaults.{IsListCause, IsNoSiteCause, IsSiteCause};
+ghost use Rattle.stored_steps.specs.BaseFaults.{LacksHeading};
+ghost use Rattle.stored_steps.specs.BaseFaults.{LacksBase, LacksDelta, LacksParts};
 ghost use Rattle.stored_steps.specs.BaseReading.{HasParts, IsDeltaAtFront, IsHead};
 ghost use Rattle.stored_steps.specs.Kinds.{kind_number};
 ghost use Rattle.stored_steps.specs.declared.row_kind.RowKind.TheVariants.{Base};
@@ -32,7 +42,8 @@ struct Head<'a> {
 
 // The bytes behind the version and the site.
 fn behind_site(site: SiteId, bytes: &[u8]) -> Result<&[u8], BaseFault>
-    ensures { IfOk result (λ rest. bytes.now ≡ BASE_VERSION ∷ site ∷ rest.now) }
+    ensures front { IfOk result (λ rest. bytes.now ≡ BASE_VERSION ∷ site ∷ rest.now) }
+    ensures fault { IfErr result (λ fault. IsSiteCause site bytes.now fault) }
 {
     let [version, rest @ ..] = bytes else {
         return Err(BaseFault::BadVersion);
@@ -53,6 +64,8 @@ fn behind_site(site: SiteId, bytes: &[u8]) -> Result<&[u8], BaseFault>
 fn behind_list<'a>(alloc: Global, list: &QueueList, bytes: &'a [u8]) -> Result<&'a [u8], BaseFault>
     ensures found { IfOk result (λ rest. bytes.now ≡ list_bytes list.now ++ rest.now) }
     ensures queues { OnOk result (AreQueues list.now) }
+    ensures fault { IfErr result (λ fault. (fault ≡ BaseFault.Memory)
+        ⊎ ((fault ≡ BaseFault.WrongList) × HasOtherList list.now bytes.now)) }
 {
     let mut names = Vec::new(alloc);
     put_list(&mut names, list)?;
@@ -74,6 +87,7 @@ fn behind_list<'a>(alloc: Global, list: &QueueList, bytes: &'a [u8]) -> Result<&
 fn number8(bytes: &[u8]) -> Option<(u64, &[u8])>
     ensures spelled { IfSome result (λ x. bytes.now ≡ to_be_bytes w64 x.0 ++ x.1.now) }
     ensures fits { IfSome result (λ x. x.0 < 2 ^ 64) }
+    ensures short { IfNone result (length bytes.now < 8) }
 {
     if bytes.len() < 8 {
         return None;
@@ -91,6 +105,7 @@ fn three_numbers(bytes: &[u8]) -> Option<((u64, u64, u64), &[u8])>
         ++ (to_be_bytes w64 x.0.1 ++ (to_be_bytes w64 x.0.2 ++ x.1.now))) }
     ensures fits { IfSome result
         (λ x. (x.0.0 < 2 ^ 64) × ((x.0.1 < 2 ^ 64) × (x.0.2 < 2 ^ 64))) }
+    ensures short { IfNone result (length bytes.now < 24) }
 {
     let (count, rest) = number8(bytes)?;
     let (time, rest) = number8(rest)?;
@@ -100,8 +115,9 @@ fn three_numbers(bytes: &[u8]) -> Option<((u64, u64, u64), &[u8])>
 
 // The name and the numbers at the front of bytes, and what follows them.
 fn head_in(bytes: &[u8]) -> Option<Head<'_>>
-    ensures { IfSome result
+    ensures head { IfSome result
         (λ head. IsHead head.name head.starts head.last head.frames.now bytes.now) }
+    ensures short { IfNone result (length bytes.now < head_size) }
 {
     let (name, rest) = bytes.split_first_chunk::<NAME_BYTES>()?;
     let (starts, rest) = number8(rest)?;
@@ -115,7 +131,10 @@ fn head_in(bytes: &[u8]) -> Option<Head<'_>>
 }
 
 // Why bytes begin with no frame, as the fault of a base.
-fn decode_fault(fault: DecodeFault) -> BaseFault {
+fn decode_fault(fault: DecodeFault) -> BaseFault
+    ensures memory { fault ≡ DecodeFault.Memory → result ≡ BaseFault.Memory }
+    ensures other { fault ≢ DecodeFault.Memory → result ≡ BaseFault.Decode fault }
+{
     match fault {
         DecodeFault::Memory => BaseFault::Memory,
         fault => BaseFault::Decode(fault),
@@ -124,7 +143,9 @@ fn decode_fault(fault: DecodeFault) -> BaseFault {
 
 // The delta of a frame, if it is the site's of the number 1.
 fn own_delta(site: SiteId, frame: Frame) -> Result<Delta, BaseFault>
-    ensures { IfOk result (λ delta. frame ≡ frame_of site 1 delta) }
+    ensures delta { IfOk result (λ delta. frame ≡ frame_of site 1 delta) }
+    ensures fault { IfErr result (λ fault. (fault ≡ BaseFault.WrongFrame)
+        × ((frame.maker ≢ site) ⊎ (frame.number ≢ 1))) }
 {
     if frame.maker != site || frame.number != 1 {
         drop(frame);
@@ -135,7 +156,9 @@ fn own_delta(site: SiteId, frame: Frame) -> Result<Delta, BaseFault>
 
 // The delta of a site's frame of the number 1 at the front of bytes, and what follows the frame.
 fn delta_in(alloc: Global, site: SiteId, bytes: &[u8]) -> Result<(Delta, &[u8]), BaseFault>
-    ensures { IfOk result (λ x. IsDeltaAtFront site x.0 bytes.now x.1.now) }
+    ensures delta { IfOk result (λ x. IsDeltaAtFront site x.0 bytes.now x.1.now) }
+    ensures fault { IfErr result (λ fault. (fault ≡ BaseFault.Memory)
+        ⊎ LacksDelta site bytes.now fault) }
 {
     let (frame, len) = match decode(alloc, bytes) {
         Ok(decoded) => decoded,
@@ -155,7 +178,9 @@ fn is_end(bytes: &[u8]) -> bool
 // The state and the buffer of a site that bytes spell.
 #[tactic(auto, using(crate::proofs::Reading::parts_read))]
 fn deltas_in(alloc: Global, site: SiteId, bytes: &[u8]) -> Result<(Delta, Delta), BaseFault>
-    ensures { IfOk result (λ x. HasParts site x.0 x.1 bytes.now) }
+    ensures parts { IfOk result (λ x. HasParts site x.0 x.1 bytes.now) }
+    ensures fault { IfErr result (λ fault. (fault ≡ BaseFault.Memory)
+        ⊎ LacksParts site bytes.now fault) }
 {
     let (state, rest) = delta_in(alloc, site, bytes)?;
     let (pending, rest) = match delta_in(alloc, site, rest) {
@@ -174,7 +199,10 @@ fn deltas_in(alloc: Global, site: SiteId, bytes: &[u8]) -> Result<(Delta, Delta)
 }
 
 // Why parts make no replica, as the fault of a base.
-fn parts_fault(fault: RestoreFault) -> BaseFault {
+fn parts_fault(fault: RestoreFault) -> BaseFault
+    ensures { ((fault ≡ RestoreFault.Memory) × (result ≡ BaseFault.Memory))
+        ⊎ ((fault ≢ RestoreFault.Memory) × (result ≡ BaseFault.Parts fault)) }
+{
     match fault {
         RestoreFault::Memory => BaseFault::Memory,
         fault => BaseFault::Parts(fault),
@@ -191,6 +219,8 @@ fn read_base(
     ensures site { IfOk result (λ base. base.replica.site ≡ site) }
     ensures names { IfOk result (λ base. base.replica.names ≡ list.now) }
     ensures read { IfOk result (λ base. IsReadBase row.now base) }
+    ensures fault { IfErr result (λ fault. (fault ≡ BaseFault.Memory)
+        ⊎ LacksBase site list.now row.now fault) }
 {
     if row.kind() != RowKind::Base.number() {
         return Err(BaseFault::NoBase);
@@ -221,8 +251,8 @@ fn read_base(
 /// The base that a row says, of this site with this list of queues. The buffer is joined into the state, as `Replica::restored` does: that
 /// changes nothing where a replica was stored.
 ///
-/// Errors, in order: `NoBase`, if the kind is not that of a base; `BadVersion`, if the first byte is not `BASE_VERSION`; `WrongSite`, if
-/// the base is of another site; `WrongList`, if it is of another list of queues; `Truncated`, if the bytes end before the frames begin;
+/// Errors, in order, each but the last only for its cause: `NoBase`, if the kind is not that of a base; `BadVersion`, if the first byte is
+/// not `BASE_VERSION`; `WrongSite`, if the base is of another site; `WrongList`, if it is of another list of queues; `Truncated`, if the bytes end before the frames begin;
 /// `Decode`, if the state or the buffer is no frame, with the fault of `decode`; `WrongFrame`, if one is a frame of another site or
 /// number; `Trailing`, if bytes follow the buffer; `Parts`, if the parts are those of no replica, with the fault of `Replica::restored`;
 /// `Memory`, which may stand in place of each from `WrongList` on.
@@ -237,12 +267,21 @@ pub fn base_of_row(
     ensures read { IfOk result (λ base. IsReadBase row.now base) }
     ensures same { (base : StoredBase) → IsRowOfBase base row.now
         → IfOk result (λ read. IsSameBase base read) }
+    ensures cause { IfErr result (λ fault. (fault ≡ BaseFault.Memory)
+        ⊎ IsBaseRowCause site list.now row.now fault) }
+    ensures none { IfErr result (λ fault. (fault ≡ BaseFault.Memory)
+        ⊎ HasNoBase site list.now row.now) }
 {
     read_base(alloc, site, list, row)
 }
 
 // The site that bytes name behind the version.
-fn site_in(bytes: &[u8]) -> Result<SiteId, BaseFault> {
+fn site_in(bytes: &[u8]) -> Result<SiteId, BaseFault>
+    ensures front { IfOk result
+        (λ site. (rest : List ℕ) × (bytes.now ≡ BASE_VERSION ∷ site ∷ rest)) }
+    ensures site { IfOk result (λ site. IsSite site) }
+    ensures fault { IfErr result (λ fault. IsNoSiteCause bytes.now fault) }
+{
     let [version, rest @ ..] = bytes else {
         return Err(BaseFault::BadVersion);
     };
@@ -259,21 +298,34 @@ fn site_in(bytes: &[u8]) -> Result<SiteId, BaseFault> {
 }
 
 // A name at the front of bytes, and what follows it.
-fn name_in(bytes: &[u8]) -> Option<(QueueName, &[u8])> {
+fn name_in(bytes: &[u8]) -> Option<(QueueName, &[u8])>
+    ensures spelled { IfSome result (λ x. bytes.now ≡ name_bytes x.0 ++ x.1.now) }
+    ensures none { IfNone result (HasNoName bytes.now) }
+{
     let (len, rest) = bytes.split_first()?;
     let len = usize::from(*len);
-    let name = QueueName::new(rest.get(..len)?).ok()?;
-    Some((name, rest.get(len..)?))
+    if rest.len() < len {
+        return None;
+    }
+    let (front, rest) = rest.split_at(len);
+    match QueueName::new(front) {
+        Ok(name) => Some((name, rest)),
+        Err(_) => None,
+    }
 }
 
-// The names at the front of bytes.
-fn names_in(alloc: Global, bytes: &[u8]) -> Result<Vec<QueueName>, BaseFault> {
-    let [high, low, rest @ ..] = bytes else {
-        return Err(BaseFault::Truncated);
-    };
+// A number of names at the front of bytes.
+#[tactic(auto, using(crate::proofs::Headings::one_name_more, crate::proofs::Headings::fewer))]
+fn names_of(alloc: Global, count: u16, bytes: &[u8]) -> Result<Vec<QueueName>, BaseFault>
+    ensures count { IfOk result (λ names. length names.items ≡ count) }
+    ensures spelled { IfOk result
+        (λ names. (rest : List ℕ) × (bytes.now ≡ flat_map name_bytes names.items ++ rest)) }
+    ensures fault { IfErr result (λ fault. (fault ≡ BaseFault.Memory)
+        ⊎ ((fault ≡ BaseFault.WrongList) × HasFewerNames count bytes.now)) }
+{
     let mut names = Vec::new(alloc);
-    let mut left = rest;
-    for _ in 0..u16::from_be_bytes([*high, *low]) {
+    let mut left = bytes;
+    for _place in 0..count {
         let Some((name, rest)) = name_in(left) else {
             drop(names);
             return Err(BaseFault::WrongList);
@@ -287,18 +339,48 @@ fn names_in(alloc: Global, bytes: &[u8]) -> Result<Vec<QueueName>, BaseFault> {
     Ok(names)
 }
 
+// The names at the front of bytes, behind how many there are.
+fn names_in(alloc: Global, bytes: &[u8]) -> Result<Vec<QueueName>, BaseFault>
+    ensures few { IfOk result (λ names. length names.items < 2 ^ 16) }
+    ensures spelled { IfOk result
+        (λ names. (rest : List ℕ) × (bytes.now ≡ list_bytes names.items ++ rest)) }
+    ensures fault { IfErr result (λ fault. (fault ≡ BaseFault.Memory)
+        ⊎ IsListCause bytes.now fault) }
+{
+    let [high, low, rest @ ..] = bytes else {
+        return Err(BaseFault::Truncated);
+    };
+    names_of(alloc, u16::from_be_bytes([*high, *low]), rest)
+}
+
+// The list of queues of these names.
+fn queues_of(alloc: Global, names: &[QueueName]) -> Result<QueueList, BaseFault>
+    ensures value { IfOk result (λ list. list ≡ names.now) }
+    ensures queues { IfOk result (λ list. AreQueues list) }
+    ensures fault { IfErr result (λ fault. (fault ≡ BaseFault.Memory)
+        ⊎ ((fault ≡ BaseFault.WrongList) × (AreQueues names.now → ⊥))) }
+{
+    match QueueList::new(alloc, names) {
+        Ok(list) => Ok(list),
+        Err(ListFault::Memory) => Err(BaseFault::Memory),
+        Err(ListFault::Empty) => Err(BaseFault::WrongList),
+        Err(ListFault::TooMany) => Err(BaseFault::WrongList),
+        Err(ListFault::Twice) => Err(BaseFault::WrongList),
+    }
+}
+
 // The list of queues at the front of bytes.
 fn list_in(alloc: Global, bytes: &[u8]) -> Result<QueueList, BaseFault>
-    ensures { IfOk result (λ list. (rest : List ℕ) × (bytes.now ≡ list_bytes list ++ rest)) }
+    ensures spelled { IfOk result
+        (λ list. (rest : List ℕ) × (bytes.now ≡ list_bytes list ++ rest)) }
+    ensures queues { IfOk result (λ list. AreQueues list) }
+    ensures fault { IfErr result (λ fault. (fault ≡ BaseFault.Memory)
+        ⊎ IsListCause bytes.now fault) }
 {
     let names = names_in(alloc, bytes)?;
-    let list = QueueList::new(alloc, names.as_slice());
+    let list = queues_of(alloc, names.as_slice());
     drop(names);
-    let list = match list {
-        Ok(list) => list,
-        Err(ListFault::Memory) => return Err(BaseFault::Memory),
-        Err(_) => return Err(BaseFault::WrongList),
-    };
+    let list = list?;
     match behind_list(alloc, &list, bytes) {
         Ok(_) => Ok(list),
         Err(fault) => {
@@ -308,15 +390,11 @@ fn list_in(alloc: Global, bytes: &[u8]) -> Result<QueueList, BaseFault>
     }
 }
 
-/// The site and the list of queues that the base in a row names.
-///
-/// Errors, in order: `NoBase`, if the kind is not that of a base; `BadVersion`, if the first byte is not `BASE_VERSION`; `Truncated`, if the
-/// bytes end before the site; `WrongSite`, if the second byte is not the number of a site; `Truncated`, if the bytes end before the number of
-/// queues; `WrongList`, if no list of queues follows; `Memory`, which may stand in place of `WrongList`.
-pub fn base_heading(alloc: Global, row: &StoredRow) -> Result<(SiteId, QueueList), BaseFault>
-    ensures kind { OnOk result (row.now.kind ≡ kind_number Base) }
-    ensures read { IfOk result (λ it. (rest : List ℕ)
-        × (row.now.bytes ≡ BASE_VERSION ∷ it.0 ∷ (list_bytes it.1 ++ rest))) }
+// The site and the list of queues that the base in a row names.
+fn read_heading(alloc: Global, row: &StoredRow) -> Result<(SiteId, QueueList), BaseFault>
+    ensures heading { IfOk result (λ it. IsHeading row.now it.0 it.1) }
+    ensures fault { IfErr result (λ fault. (fault ≡ BaseFault.Memory)
+        ⊎ LacksHeading row.now fault) }
 {
     if row.kind() != RowKind::Base.number() {
         return Err(BaseFault::NoBase);
@@ -324,4 +402,21 @@ pub fn base_heading(alloc: Global, row: &StoredRow) -> Result<(SiteId, QueueList
     let site = site_in(row.body())?;
     let list = list_in(alloc, behind_site(site, row.body())?)?;
     Ok((site, list))
+}
+
+/// The site and the list of queues that the base in a row names.
+///
+/// Errors, in order, each but the last only for its cause: `NoBase`, if the kind is not that of a base; `BadVersion`, if the first byte is
+/// not `BASE_VERSION`; `Truncated`, if the bytes end before the site; `WrongSite`, if the second byte is not the number of a site; `Truncated`, if the bytes end before the number of
+/// queues; `WrongList`, if no list of queues follows; `Memory`, which may stand in place of `WrongList`.
+pub fn base_heading(alloc: Global, row: &StoredRow) -> Result<(SiteId, QueueList), BaseFault>
+    ensures kind { OnOk result (row.now.kind ≡ kind_number Base) }
+    ensures read { IfOk result (λ it. (rest : List ℕ)
+        × (row.now.bytes ≡ BASE_VERSION ∷ it.0 ∷ (list_bytes it.1 ++ rest))) }
+    ensures heading { IfOk result (λ it. IsHeading row.now it.0 it.1) }
+    ensures cause { IfErr result (λ fault. (fault ≡ BaseFault.Memory)
+        ⊎ IsHeadingCause row.now fault) }
+    ensures none { IfErr result (λ fault. (fault ≡ BaseFault.Memory) ⊎ HasNoHeading row.now) }
+{
+    read_heading(alloc, row)
 }

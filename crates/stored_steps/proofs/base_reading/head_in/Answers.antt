@@ -4,8 +4,8 @@ use Rattle.stored_steps.specs.declared.limits.TheConstants.{NAME_BYTES}
 use Rattle.stored_steps.proofs.Reading.{head_read, short}
 use Rattle.stored_steps.proofs.base_reading.head_in.Goals as goal
 
-pub returns : goal.returns
-returns c =
+pub returns-clause-head : goal.returns-clause-head
+returns-clause-head c =
     let bytes = c.args.bytes.now in
     let front : c.in_ok-name.name.now ≡ take NAME_BYTES bytes = cc (c.in_ok-name.ensures.cases.0) in
     let back : c.in_ok-name.rest.now ≡ drop NAME_BYTES bytes = cc (c.in_ok-name.ensures.cases.1) in
