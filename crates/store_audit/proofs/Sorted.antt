@@ -12,7 +12,7 @@ use Rattle.site_journal.specs.Journals.{JournalState}
 use Rattle.sites_world.proofs.Lists.{one_some}
 use Rattle.store_audit.specs.declared.splitting.Parts.{Parts}
 use Rattle.store_audit.specs.declared.store_journal.StoreJournal.{StoreJournal}
-use Rattle.store_audit.specs.Stores.{AreCounted, AreFresh, AreNumbered, AreParts, AreRising, AreTwice, HasGap, HasOneList, IsStepOf, journals_of, site_number}
+use Rattle.store_audit.specs.Stores.{AreCounted, AreFresh, AreNumbered, AreParts, AreRising, AreRisingTo, AreTwice, HasGap, HasOneList, IsStepOf, journals_of, site_number}
 
 -- ---- elements
 
@@ -71,9 +71,9 @@ gap_at sorted place store rising numbered is other = record {
 }
 
 -- two neighbours are of one site
-pub twice_at : (sorted : List StoreJournal) (before place : ℕ) (one other : StoreJournal) (site lesser : ℕ) → IsNonDecreasingBy site_number sorted → before + 1 ≡ place
-    → slice_get sorted before ≡ Some one → slice_get sorted place ≡ Some other → lesser ≡ site_number one → site ≡ site_number other → site ≤ lesser → AreTwice sorted site
-twice_at sorted before place one other site lesser order next one_is other_is lesser_is site_is less =
+pub twice_at : (sorted : List StoreJournal) (before place : ℕ) (one other : StoreJournal) (site lesser : ℕ) → IsNonDecreasingBy site_number sorted → AreRisingTo sorted place
+    → before + 1 ≡ place → slice_get sorted before ≡ Some one → slice_get sorted place ≡ Some other → lesser ≡ site_number one → site ≡ site_number other → site ≤ lesser → AreTwice sorted site
+twice_at sorted before place one other site lesser order rising next one_is other_is lesser_is site_is less =
     let inside = slice_get_within sorted place other other_is in
     let rises = order before place one (omega (arith, next)) inside in
     let a = ap site_number (get_or_from_slice_get sorted before one one one_is) in
@@ -81,6 +81,7 @@ twice_at sorted before place one other site lesser order next one_is other_is le
     let under : site_number one ≤ site_number other = subst₂ (λ m n. m ≤ n) a b rises in
     record {
       place = before;
+      rising = subst (AreRisingTo sorted) (sym next) rising;
       one = one;
       other = other;
       one_is = one_is;
@@ -92,8 +93,7 @@ twice_at sorted before place one other site lesser order next one_is other_is le
 -- each store up to this one is of a greater site than the one before it
 pub rising_more : (sorted : List StoreJournal) (before place : ℕ) (one other : StoreJournal) → before + 1 ≡ place → slice_get sorted before ≡ Some one → slice_get sorted place ≡ Some other
     → site_number one < site_number other
-    → ((k : ℕ) (x y : StoreJournal) → k + 1 < place → slice_get sorted k ≡ Some x → slice_get sorted (k + 1) ≡ Some y → site_number x < site_number y)
-    → (k : ℕ) (x y : StoreJournal) → k + 1 < place + 1 → slice_get sorted k ≡ Some x → slice_get sorted (k + 1) ≡ Some y → site_number x < site_number y
+    → AreRisingTo sorted place → AreRisingTo sorted (place + 1)
 rising_more sorted before place one other next one_is other_is less rising k x y lt x_is y_is = elim (below_or_at (k + 1) place lt) [
   | inl below ↦ rising k x y below x_is y_is
   | inr at ↦

@@ -1,5 +1,5 @@
 -- Rows of a store that are done again, one after another.
-use Rattle.std.proofs.Common.{◌≡◌, ◌<◌, ◌≤◌, ◌+◌, ◌-◌, ◌^◌, ◌&&◌, min, inl, inr, ◌⊎◌, ℕ, zero, suc, Bool, true, false, not, List, [], ◌∷◌, ◌++◌, length, take, get_or, Option, Some, Result, Ok, Err, IfErr, slice_get, refl, sym, ap, subst, ◌∙◌, append-nil, length-append, true≢false, arith, cond, if◌then◌else◌}
+use Rattle.std.proofs.Common.{◌≡◌, ◌≢◌, ◌<◌, ◌≤◌, ◌+◌, ◌-◌, ◌^◌, ◌&&◌, min, inl, inr, ◌⊎◌, ℕ, zero, suc, Bool, true, false, not, List, [], ◌∷◌, ◌++◌, length, take, get_or, Option, Some, Result, Ok, Err, IfErr, slice_get, refl, sym, ap, subst, ◌∙◌, append-nil, length-append, true≢false, arith, cond, if◌then◌else◌}
 use Rattle.std.specs.Prelude.{nat_eq, count_by}
 use Rattle.std.specs.List.{All, cons_option, filter}
 use Rattle.std.proofs.lemmas.List.Sums.{sum_by-append}
@@ -11,7 +11,7 @@ use Rattle.delta.specs.DeltaStates as deltas
 use Rattle.delta.specs.DeltaStates.{DeltaState, IsEmpty}
 use Rattle.replica.specs.Deeds.{IsNew}
 use Rattle.replica.specs.Site.{IsSameSite, SiteState}
-use Rattle.replica.proofs.SameSites.{site_itself}
+use Rattle.replica.proofs.SameSites.{site_itself, site_through}
 use Rattle.site_audit.specs.Runs.{IsFromNew}
 use Rattle.site_journal.specs.declared.journaled.TheConstants.{MOST_STEPS}
 use Rattle.site_journal.specs.declared.step.Step.{Step}
@@ -20,20 +20,24 @@ use Rattle.site_journal.specs.Legal.{Leads}
 use Rattle.site_journal.specs.Replaying.{CanCome}
 use Rattle.sites_world.proofs.Lists.{none_some, one_some}
 use Rattle.stored_steps.specs.declared.base.StoredBase.{StoredBase}
+use Rattle.stored_steps.specs.declared.base_fault.BaseFault.{BaseFault}
+use Rattle.stored_steps.specs.declared.base_fault.BaseFault.TheVariants as base_fault
+use Rattle.stored_steps.specs.BaseFaults.{HasNoBase, IsAnyBaseCause, IsBaseRowCause, IsHeading, IsHeadingCause}
 use Rattle.stored_steps.specs.Bases.{IsReadBase}
 use Rattle.stored_steps.specs.RowsLead.{RowLeads, RowsLead}
 use Rattle.stored_steps.specs.StartRows.{is_start}
 use Rattle.stored_steps.specs.StepRows.{IsWithinLimits, row_of, rows_of}
 use Rattle.stored_steps.specs.Stored.{Stored}
-use Rattle.stored_steps.proofs.Replaying.{lead_on}
+use Rattle.stored_steps.proofs.BaseLaws.{read_once}
+use Rattle.stored_steps.proofs.Replaying.{lead_on, one_site}
 use Rattle.stored_steps.proofs.RowLaws.{one_step, started_row}
 use Rattle.store_audit.specs.declared.journal_fault.JournalFault.{JournalFault}
 use Rattle.store_audit.specs.declared.walk.Walk.{Walk}
 use Rattle.store_audit.specs.declared.journal_fault.JournalFault.TheVariants as fault
 use Rattle.store_audit.specs.declared.store_journal.StoreJournal.{StoreJournal}
-use Rattle.store_audit.specs.RowCauses.{IsBeginCause, IsJournalCause, IsKeptBaseCause, IsReplayCause, IsRowCause, IsStepCause, StopsFor}
+use Rattle.store_audit.specs.RowCauses.{IsBaseCause, IsBeginCause, IsJournalCause, IsKeptBaseCause, IsReplayCause, IsRowCause, IsStepCause, StopsFor}
 use Rattle.store_audit.specs.StoreRows.{is_base, is_step, rows_with_steps, step_positions, without_bases}
-use Rattle.store_audit.specs.Walks.{AreDoneAgain, HasAddedStep, HasWalked, IsBaseThere, IsJournalOfRows, IsSaidBase}
+use Rattle.store_audit.specs.Walks.{AreBasesThere, AreDoneAgain, HasAddedStep, HasWalked, IsBaseThere, IsJournalOfRows, IsSaidBase, SaysWalk}
 
 -- ---- a new site
 
@@ -97,10 +101,7 @@ all_before : (rows : List Stored) (row : Stored) → take (length rows) (rows ++
 all_before rows row = take-append-le (length rows) rows (row ∷ []) (omega arith) ∙ take_all (length rows) rows (omega arith)
 
 -- the bases among rows say what the site is there
-abbrev AreSaid : StoredBase → List Stored → Type 0
-AreSaid base rows = (place : ℕ) (row : Stored) → slice_get rows place ≡ Some row → is_base row ≡ true → IsBaseThere base (take place rows) row
-
-said_more : (base : StoredBase) (rows : List Stored) (row : Stored) → AreSaid base rows → (is_base row ≡ true → IsBaseThere base rows row) → AreSaid base (rows ++ row ∷ [])
+said_more : (base : StoredBase) (rows : List Stored) (row : Stored) → AreBasesThere base rows → (is_base row ≡ true → IsBaseThere base rows row) → AreBasesThere base (rows ++ row ∷ [])
 said_more base rows row said here = λ place found is kind. elim (one_of rows row place found is) [
   | inl p ↦ subst (λ before. IsBaseThere base before found) (sym (take-append-le place rows (row ∷ []) (let h = p.0 in omega (arith, h)))) (said place found p.1 kind)
   | inr p ↦
@@ -312,14 +313,15 @@ walked_all base rows walk n all p = subst (λ (l : List Stored). HasWalked base 
 -- a walk ends at the next row
 pub stops_here : (base : StoredBase) (rows : List Stored) (walk : Walk) (row : Stored) (i position : ℕ) (fault : JournalFault) → i < length rows → row ≡ get_or rows i row
     → HasWalked base (take i rows) walk → position ≡ i + 1
-    → IsRowCause walk.journal.replica (length (rows_with_steps (take i rows))) position row fault → StopsFor base rows fault
+    → IsRowCause base (take i rows) walk.journal.replica position row fault → StopsFor base rows fault
 stops_here base rows walk row i position fault less is p at cause = record {
   place = i;
   row = row;
   is = slice_get_read rows (length rows) i row refl less is;
   site = walk.journal.replica;
   led = p.done.led;
-  cause = subst (λ n. IsRowCause walk.journal.replica (length (rows_with_steps (take i rows))) n row fault) at cause;
+  bases = p.done.bases;
+  cause = subst (λ n. IsRowCause base (take i rows) walk.journal.replica n row fault) at cause;
 }
 
 -- ---- causes
@@ -336,29 +338,92 @@ step_cause j position row step fault.Memory is within start p = p
 
 -- a row whose step isn't added is refused behind the rows before it
 pub row_cause : (base : StoredBase) (rows : List Stored) (walk : Walk) (position : ℕ) (row : Stored) (fault : JournalFault) → is_base row ≡ false → is_start row ≡ false
-    → HasWalked base rows walk → IsStepCause walk.journal position row fault → IsRowCause walk.journal.replica (length (rows_with_steps rows)) position row fault
+    → HasWalked base rows walk → IsStepCause walk.journal position row fault → IsRowCause base rows walk.journal.replica position row fault
 row_cause base rows walk position row (fault.Base why) kind start p cause = absurd cause
 row_cause base rows walk position row fault.NotFromStart kind start p cause = absurd cause
 row_cause base rows walk position row (fault.Row at why) kind start p cause = (cause.0, steps_here row kind start, cause.1)
-row_cause base rows walk position row (fault.Damaged at) kind start p cause = (cause.0, inr cause.1)
+row_cause base rows walk position row (fault.Damaged at) kind start p cause = (cause.0, inr (record { kind = kind; nowhere = cause.1 }))
 row_cause base rows walk position row fault.TooMany kind start p cause =
     (steps_here row kind start, subst (λ n. MOST_STEPS ≤ n) p.done.each (full_steps walk.journal cause p.limit p.count))
 row_cause base rows walk position row fault.Memory kind start p cause = cause
 
+-- a base that says what the site is behind rows says what the site of a walk over them is
+there_said : (base : StoredBase) (rows : List Stored) (walk : Walk) (row : Stored) → HasWalked base rows walk → IsBaseThere base rows row → IsSaidBase walk row
+there_said base rows walk row p there =
+    let same = one_site base.replica base.replica walk.journal.replica there.site (without_bases rows) (site_itself base.replica) p.done.led there.led in
+    record {
+      read = there.read;
+      is_read = there.is_read;
+      says = record {
+        same = site_through walk.journal.replica there.site there.read.replica same there.same;
+        name = there.name ∙ sym p.name;
+        starts = there.starts ∙ sym p.starts;
+      };
+    }
+
+-- a row of which no base of the site of a walk is read doesn't say what this is
+pub none_said : (walk : Walk) (row : Stored) → HasNoBase walk.journal.replica.site walk.journal.replica.names row → IsSaidBase walk row → ⊥
+none_said walk row none said = none said.read said.says.same.site said.says.same.names said.is_read
+
+-- nor does a row whose base says other
+pub other_said : (walk : Walk) (row : Stored) (base : StoredBase) → IsReadBase row base → (SaysWalk walk base → ⊥) → IsSaidBase walk row → ⊥
+other_said walk row base read other said =
+    let same = read_once said.read base row said.is_read read in
+    other (record {
+      same = site_through walk.journal.replica said.read.replica base.replica said.says.same same.site;
+      name = same.name ∙ said.says.name;
+      starts = same.starts ∙ said.says.starts;
+    })
+
 -- a base that is refused is so behind the rows before it
-pub kept_cause : (site : SiteState) (done position : ℕ) (row : Stored) (fault : JournalFault) → is_base row ≡ true → IsKeptBaseCause position fault
-    → IsRowCause site done position row fault
-kept_cause site done position row (fault.Base why) kind cause = absurd cause
-kept_cause site done position row fault.NotFromStart kind cause = absurd cause
-kept_cause site done position row (fault.Row at why) kind cause = absurd cause
-kept_cause site done position row (fault.Damaged at) kind cause = (cause, inl kind)
-kept_cause site done position row fault.TooMany kind cause = absurd cause
-kept_cause site done position row fault.Memory kind cause = cause
+pub kept_cause : (base : StoredBase) (rows : List Stored) (walk : Walk) (position : ℕ) (row : Stored) (fault : JournalFault) → is_base row ≡ true → HasWalked base rows walk
+    → IsKeptBaseCause walk position row fault → IsRowCause base rows walk.journal.replica position row fault
+kept_cause base rows walk position row (fault.Base why) kind p cause = absurd cause
+kept_cause base rows walk position row fault.NotFromStart kind p cause = absurd cause
+kept_cause base rows walk position row (fault.Row at why) kind p cause = absurd cause
+kept_cause base rows walk position row (fault.Damaged at) kind p cause =
+    (cause.0, inl (record { kind = kind; other = λ there. cause.1 (there_said base rows walk row p there) }))
+kept_cause base rows walk position row fault.TooMany kind p cause = absurd cause
+kept_cause base rows walk position row fault.Memory kind p cause = cause
+
+-- no base is read of the first row
+pub first_cause : (row : Stored) (why : BaseFault) (given : JournalFault) → (why ≡ base_fault.Memory) ⊎ IsAnyBaseCause row why
+    → ((why ≡ base_fault.Memory) × (given ≡ fault.Memory)) ⊎ ((why ≢ base_fault.Memory) × (given ≡ fault.Base why)) → IsBaseCause row given
+first_cause row why given cause (inl memory) = subst (IsBaseCause row) (sym memory.1) tt
+first_cause row why given (inl memory) (inr (other, is)) = absurd (other memory)
+first_cause row why given (inr cause) (inr (other, is)) = subst (IsBaseCause row) (sym is) cause
+
+-- a row has no heading, so it is no base
+pub no_heading : (row : Stored) (why : BaseFault) → (why ≡ base_fault.Memory) ⊎ IsHeadingCause row why → (why ≡ base_fault.Memory) ⊎ IsAnyBaseCause row why
+no_heading row why (inl memory) = inl memory
+no_heading row why (inr cause) = inr (inl cause)
+
+-- it has a heading, and is no base of the site and the queues that this names
+pub no_named_base : (row : Stored) (site : ℕ) (names : List (List ℕ)) (why : BaseFault) → IsHeading row site names → (why ≡ base_fault.Memory) ⊎ IsBaseRowCause site names row why
+    → (why ≡ base_fault.Memory) ⊎ IsAnyBaseCause row why
+no_named_base row site names why heading (inl memory) = inl memory
+no_named_base row site names why heading (inr cause) = inr (inr (record { site = site; names = names; heading = heading; cause = cause }))
+
+-- no base is read of a further row
+pub unread_cause : (walk : Walk) (position : ℕ) (row : Stored) (why : BaseFault) (given : JournalFault) → (why ≡ base_fault.Memory) ⊎ HasNoBase walk.journal.replica.site walk.journal.replica.names row
+    → ((why ≡ base_fault.Memory) × (given ≡ fault.Memory)) ⊎ ((why ≢ base_fault.Memory) × (given ≡ fault.Damaged position)) → IsKeptBaseCause walk position row given
+unread_cause walk position row why given none (inl memory) = subst (IsKeptBaseCause walk position row) (sym memory.1) tt
+unread_cause walk position row why given (inl memory) (inr (other, is)) = absurd (other memory)
+unread_cause walk position row why given (inr none) (inr (other, is)) = subst (IsKeptBaseCause walk position row) (sym is) (refl, none_said walk row none)
+
+-- so no walk begins with it
+pub not_begun : (first : ℕ) (row : Stored) (fault : JournalFault) → IsBaseCause row fault → IsBeginCause first row fault
+not_begun first row (fault.Base why) cause = cause
+not_begun first row fault.NotFromStart cause = absurd cause
+not_begun first row (fault.Row at why) cause = absurd cause
+not_begun first row (fault.Damaged at) cause = absurd cause
+not_begun first row fault.TooMany cause = absurd cause
+not_begun first row fault.Memory cause = cause
 
 -- the first row that is refused is so among all rows
 pub begin_cause : (first : ℕ) (rows : List Stored) (row : Stored) (rest : List Stored) (fault : JournalFault) → rows ≡ row ∷ rest → IsBeginCause first row fault
     → IsJournalCause first rows fault
-begin_cause first rows row rest (fault.Base why) are cause = cause
+begin_cause first rows row rest (fault.Base why) are cause = inr (record { first = row; rest = rest; rows_are = are; cause = cause })
 begin_cause first rows row rest fault.NotFromStart are (inl late) = inl late
 begin_cause first rows row rest fault.NotFromStart are (inr old) = inr (record { first = row; rest = rest; rows_are = are; old = old })
 begin_cause first rows row rest (fault.Row at why) are cause = absurd cause

@@ -1,12 +1,14 @@
 -- The script that explains the stores of all sites.
-use Rattle.std.specs.Prelude.{ℕ, ⊤, ◌≡◌, ◌≤◌, ◌++◌, List, length, Option, Some, slice_get, count_by}
+use Rattle.std.specs.Prelude.{ℕ, ◌≡◌, ◌≤◌, ◌⊎◌, ◌++◌, List, length, Option, Some, slice_get, count_by}
 use Rattle.std.specs.Io.KnownBytes.{Appends}
 use Rattle.std.specs.List.{All}
+use Rattle.ami_text.specs.Devices.{HasTaken}
 use Rattle.ami_text.specs.Lines.{lines_text}
 use Rattle.dots.specs.declared.limits.TheConstants.{SITES}
 use Rattle.event_script.specs.Comments.{IsComment}
 use Rattle.event_script.specs.Lines.{HasLimits, is_unsaid, script_of}
 use Rattle.site_audit.specs.Runs.{AreSites, IsRun, IsStuck}
+use Rattle.site_journal.specs.Journals.{JournalState}
 use Rattle.sites_world.specs.declared.event.Event.{Event}
 use Rattle.store_audit.specs.declared.audit_end.AuditEnd.{AuditEnd}
 use Rattle.store_audit.specs.declared.audit_end.AuditEnd.TheVariants.{Explained, Stuck}
@@ -66,13 +68,25 @@ pub record AreRefused (stores : List StoreJournal) (fault : StoreAuditFault) (be
   pub cause : IsOrderCause sorted fault
   pub unwritten : after ≡ before
 
--- an audit of stores fails for this cause
+-- events of journals are one run of them, or are stuck
+abbrev pub AreOfJournals : List JournalState → List Event → Type 0
+AreOfJournals journals events = IsRun journals events ⊎ ((site : ℕ) × (place : ℕ) × IsStuck journals site place events)
+
+-- a prefix of the heading of stores and the script of their events was written
+pub record IsBegun (stores : List StoreJournal) (before after : Option (List ℕ)) : Type 0 where
+  pub sorted : List StoreJournal
+  pub all : AreAllSites stores sorted
+  pub events : List Event
+  pub of : AreOfJournals (journals_of sorted) events
+  pub taken : HasTaken before after (lines_text (heading_lines sorted) ++ script_of events)
+
+-- an audit of stores fails for this cause, and this was written: by the writer, a prefix; out of memory, that or nothing
 abbrev pub IsAuditCause : List StoreJournal → Option (List ℕ) → Option (List ℕ) → StoreAuditFault → Type 0
 IsAuditCause stores before after (Doubled site) = AreRefused stores (Doubled site) before after
 IsAuditCause stores before after (Missing site) = AreRefused stores (Missing site) before after
 IsAuditCause stores before after (OtherQueues site) = AreRefused stores (OtherQueues site) before after
-IsAuditCause stores before after Write = ⊤
-IsAuditCause stores before after Memory = ⊤
+IsAuditCause stores before after Write = IsBegun stores before after
+IsAuditCause stores before after Memory = (after ≡ before) ⊎ IsBegun stores before after
 
 -- an audit of stores in the order of their sites fails for this cause
 abbrev pub IsSortedCause : List StoreJournal → Option (List ℕ) → Option (List ℕ) → StoreAuditFault → Type 0
@@ -101,6 +115,18 @@ pub record WritesStuck (parts : Parts) (heading : List ℕ) (site position : ℕ
 abbrev pub EndsAs : Parts → List ℕ → Option (List ℕ) → Option (List ℕ) → AuditEnd → Type 0
 EndsAs parts heading before after (Explained unsaid) = WritesRun parts heading unsaid before after
 EndsAs parts heading before after (Stuck site position words) = WritesStuck parts heading site position before after
+
+-- a prefix of a heading and the script of events of journals was written
+pub record HasBegun (parts : Parts) (heading : List ℕ) (before after : Option (List ℕ)) : Type 0 where
+  pub events : List Event
+  pub of : AreOfJournals parts.journals.items events
+  pub taken : HasTaken before after (heading ++ script_of events)
+
+-- an audit of journals fails for this cause, and this was written
+abbrev pub IsPartsCause : Parts → List ℕ → Option (List ℕ) → Option (List ℕ) → StoreAuditFault → Type 0
+IsPartsCause parts heading before after Write = HasBegun parts heading before after
+IsPartsCause parts heading before after Memory = (after ≡ before) ⊎ HasBegun parts heading before after
+IsPartsCause parts heading before after other = ⊥
 
 -- an audit ends with this number of events that no line says
 abbrev pub IsExplainedEnd : ℕ → AuditEnd → Type 0

@@ -1,5 +1,5 @@
 -- Why the rows of a store give no journal.
-use Rattle.std.specs.Prelude.{ℕ, ⊤, ◌≡◌, ◌≢◌, ◌≤◌, ◌+◌, ◌⊎◌, true, List, ◌∷◌, length, take, Some, slice_get}
+use Rattle.std.specs.Prelude.{ℕ, ⊤, ◌≡◌, ◌≢◌, ◌≤◌, ◌+◌, ◌⊎◌, true, false, List, [], ◌∷◌, length, take, Some, slice_get}
 use Rattle.replica.specs.Deeds.{IsNew}
 use Rattle.replica.specs.Site.{SiteState}
 use Rattle.site_journal.specs.declared.journaled.TheConstants.{MOST_STEPS}
@@ -7,21 +7,26 @@ use Rattle.site_journal.specs.declared.step.Step.{Step}
 use Rattle.site_journal.specs.Journals.{IsFull, JournalState}
 use Rattle.site_journal.specs.Replaying.{CanCome}
 use Rattle.stored_steps.specs.declared.base.StoredBase.{StoredBase}
+use Rattle.stored_steps.specs.declared.base_fault.BaseFault.{BaseFault}
+use Rattle.stored_steps.specs.declared.base_fault.BaseFault.TheVariants as base_fault
+use Rattle.stored_steps.specs.BaseFaults.{IsAnyBaseCause}
 use Rattle.stored_steps.specs.Bases.{IsReadBase}
 use Rattle.stored_steps.specs.RowsLead.{RowLeads, RowsLead}
 use Rattle.stored_steps.specs.StepRows.{HasRowFault}
 use Rattle.stored_steps.specs.Stored.{Stored}
 use Rattle.store_audit.specs.declared.journal_fault.JournalFault.{JournalFault}
 use Rattle.store_audit.specs.declared.journal_fault.JournalFault.TheVariants.{Base, NotFromStart, Row, Damaged, TooMany, Memory}
+use Rattle.store_audit.specs.declared.walk.Walk.{Walk}
 use Rattle.store_audit.specs.StoreRows.{is_base, is_step, rows_with_steps, without_bases}
+use Rattle.store_audit.specs.Walks.{AreBasesThere, IsBaseThere, IsSaidBase}
 
 -- ---- the first row
 
--- the first row may be refused for this cause
-abbrev pub IsBaseCause : JournalFault → Type 0
-IsBaseCause (Base fault) = ⊤
-IsBaseCause Memory = ⊤
-IsBaseCause other = ⊥
+-- no base is read of a row for this cause
+abbrev pub IsBaseCause : Stored → JournalFault → Type 0
+IsBaseCause row (Base fault) = IsAnyBaseCause row fault
+IsBaseCause row Memory = ⊤
+IsBaseCause row other = ⊥
 
 -- a row is the base of a site that isn't new
 pub record IsOfOldSite (row : Stored) : Type 0 where
@@ -31,35 +36,54 @@ pub record IsOfOldSite (row : Stored) : Type 0 where
 
 -- no walk begins with the first row, which has the position `first`, for this cause
 abbrev pub IsBeginCause : ℕ → Stored → JournalFault → Type 0
-IsBeginCause first row (Base fault) = ⊤
+IsBeginCause first row (Base fault) = IsAnyBaseCause row fault
 IsBeginCause first row NotFromStart = (first ≢ 0) ⊎ IsOfOldSite row
 IsBeginCause first row Memory = ⊤
 IsBeginCause first row other = ⊥
 
 -- ---- the further rows
 
--- a row may say other than a site in state `site` does: it is of any base, or its step doesn't lead the site anywhere
-abbrev pub SaysOther : SiteState → Stored → Type 0
-SaysOther site row = (is_base row ≡ true) ⊎ ((to : SiteState) → RowLeads site row to → ⊥)
+-- a row is of a base that doesn't say what the site is behind the rows `before` it
+pub record IsOtherBase (base : StoredBase) (before : List Stored) (row : Stored) : Type 0 where
+  pub kind : is_base row ≡ true
+  pub other : IsBaseThere base before row → ⊥
 
--- the row of this position, at a site in state `site` with `done` steps, is refused for this cause
-abbrev pub IsRowCause : SiteState → ℕ → ℕ → Stored → JournalFault → Type 0
-IsRowCause site done position row (Row at fault) = (at ≡ position) × (is_step row ≡ true) × HasRowFault fault row
-IsRowCause site done position row (Damaged at) = (at ≡ position) × SaysOther site row
-IsRowCause site done position row TooMany = (is_step row ≡ true) × (MOST_STEPS ≤ done)
-IsRowCause site done position row Memory = ⊤
-IsRowCause site done position row other = ⊥
+-- a row is of no base, and leads a site in state `site` nowhere
+pub record LeadsNowhere (site : SiteState) (row : Stored) : Type 0 where
+  pub kind : is_base row ≡ false
+  pub nowhere : (to : SiteState) → RowLeads site row to → ⊥
 
--- a walk over the rows behind a base ends with this fault: the rows before some row lead to the site that refuses it
+-- the row of this position is refused for this cause, at a site in state `site` behind the rows `before` it, which began at `base`
+abbrev pub IsRowCause : StoredBase → List Stored → SiteState → ℕ → Stored → JournalFault → Type 0
+IsRowCause base before site position row (Row at fault) = (at ≡ position) × (is_step row ≡ true) × HasRowFault fault row
+IsRowCause base before site position row (Damaged at) = (at ≡ position) × (IsOtherBase base before row ⊎ LeadsNowhere site row)
+IsRowCause base before site position row TooMany = (is_step row ≡ true) × (MOST_STEPS ≤ length (rows_with_steps before))
+IsRowCause base before site position row Memory = ⊤
+IsRowCause base before site position row other = ⊥
+
+-- A walk over the rows behind a base ends with this fault: the rows before some row lead to the site that refuses it, and each base
+-- among them says what the site is there.
 pub record StopsFor (base : StoredBase) (rows : List Stored) (fault : JournalFault) : Type 0 where
   pub place : ℕ
   pub row : Stored
   pub is : slice_get rows place ≡ Some row
   pub site : SiteState
   pub led : RowsLead base.replica (without_bases (take place rows)) site
-  pub cause : IsRowCause site (length (rows_with_steps (take place rows))) (place + 1) row fault
+  pub bases : AreBasesThere base (take place rows)
+  pub cause : IsRowCause base (take place rows) site (place + 1) row fault
 
 -- ---- all rows
+
+-- rows begin with a row of which no base is read for this cause
+pub record BeginsWithNoBase (rows : List Stored) (fault : BaseFault) : Type 0 where
+  pub first : Stored
+  pub rest : List Stored
+  pub rows_are : rows ≡ first ∷ rest
+  pub cause : IsAnyBaseCause first fault
+
+-- there is no row, or no base is read of the first, for this cause
+abbrev pub HasNoFirstBase : List Stored → BaseFault → Type 0
+HasNoFirstBase rows fault = ((rows ≡ []) × (fault ≡ base_fault.NoBase)) ⊎ BeginsWithNoBase rows fault
 
 -- rows begin with the base of a site that isn't new
 pub record BeginsOld (rows : List Stored) : Type 0 where
@@ -79,7 +103,7 @@ pub record StopsBehindBase (rows : List Stored) (fault : JournalFault) : Type 0 
 
 -- rows, the first of which has the position `first`, give no journal for this cause
 abbrev pub IsJournalCause : ℕ → List Stored → JournalFault → Type 0
-IsJournalCause first rows (Base fault) = ⊤
+IsJournalCause first rows (Base fault) = HasNoFirstBase rows fault
 IsJournalCause first rows NotFromStart = (first ≢ 0) ⊎ BeginsOld rows
 IsJournalCause first rows Memory = ⊤
 IsJournalCause first rows (Row position fault) = StopsBehindBase rows (Row position fault)
@@ -88,11 +112,11 @@ IsJournalCause first rows TooMany = StopsBehindBase rows TooMany
 
 -- ---- parts
 
--- a base behind the first row, at this position, is refused for this cause
-abbrev pub IsKeptBaseCause : ℕ → JournalFault → Type 0
-IsKeptBaseCause position (Damaged at) = at ≡ position
-IsKeptBaseCause position Memory = ⊤
-IsKeptBaseCause position other = ⊥
+-- a row behind the first, at this position, isn't a base that says what the site of a walk is, for this cause
+abbrev pub IsKeptBaseCause : Walk → ℕ → Stored → JournalFault → Type 0
+IsKeptBaseCause walk position row (Damaged at) = (at ≡ position) × (IsSaidBase walk row → ⊥)
+IsKeptBaseCause walk position row Memory = ⊤
+IsKeptBaseCause walk position row other = ⊥
 
 -- no step is read of the row of this position for this cause
 abbrev pub IsReadCause : ℕ → Stored → JournalFault → Type 0

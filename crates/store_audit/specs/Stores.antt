@@ -25,6 +25,10 @@ pub record AreInOrder (stores sorted : List StoreJournal) : Type 0 where
 abbrev pub AreRising : List StoreJournal → Type 0
 AreRising sorted = (place : ℕ) (one other : StoreJournal) → slice_get sorted place ≡ Some one → slice_get sorted (place + 1) ≡ Some other → site_number one < site_number other
 
+-- each of the first `count` stores is of a greater site than the one before it
+abbrev pub AreRisingTo : List StoreJournal → ℕ → Type 0
+AreRisingTo sorted count = (place : ℕ) (one other : StoreJournal) → place + 1 < count → slice_get sorted place ≡ Some one → slice_get sorted (place + 1) ≡ Some other → site_number one < site_number other
+
 -- each of the first `count` stores is of the site of its place
 abbrev pub AreNumbered : List StoreJournal → ℕ → Type 0
 AreNumbered sorted count = (place : ℕ) (store : StoreJournal) → place < count → slice_get sorted place ≡ Some store → site_number store ≡ place
@@ -33,9 +37,10 @@ AreNumbered sorted count = (place : ℕ) (store : StoreJournal) → place < coun
 abbrev pub HasOneList : List StoreJournal → ℕ → Type 0
 HasOneList sorted count = (place : ℕ) (store : StoreJournal) → place < count → slice_get sorted place ≡ Some store → store.journal.base.names ≡ names_in (journals_of sorted)
 
--- two neighbours are of this site
+-- two neighbours are of this site, and all stores before them are of lesser sites, one of each
 pub record AreTwice (sorted : List StoreJournal) (site : ℕ) : Type 0 where
   pub place : ℕ
+  pub rising : AreRisingTo sorted (place + 1)
   pub one : StoreJournal
   pub other : StoreJournal
   pub one_is : slice_get sorted place ≡ Some one

@@ -31,6 +31,10 @@ pub record IsBaseThere (base : StoredBase) (before : List Stored) (row : Stored)
   pub name : read.name ≡ base.name
   pub starts : read.starts ≡ starts_with base.starts before
 
+-- each base among rows says what the site is there
+abbrev pub AreBasesThere : StoredBase → List Stored → Type 0
+AreBasesThere base rows = (place : ℕ) (row : Stored) → slice_get rows place ≡ Some row → is_base row ≡ true → IsBaseThere base (take place rows) row
+
 -- The rows behind a base were done again in a journal, which began from that base: it has a step for each row of a step, in their
 -- order, and `positions` are the places of these rows in the store. Each further base says what the site is there.
 pub record AreDoneAgain (base : StoredBase) (rows : List Stored) (journal : JournalState) (positions : List ℕ) : Type 0 where
@@ -40,7 +44,7 @@ pub record AreDoneAgain (base : StoredBase) (rows : List Stored) (journal : Jour
   pub each : length journal.steps ≡ length (rows_with_steps rows)
   pub within : All IsWithinLimits journal.steps
   pub places : positions ≡ step_positions 1 rows
-  pub bases : (place : ℕ) (row : Stored) → slice_get rows place ≡ Some row → is_base row ≡ true → IsBaseThere base (take place rows) row
+  pub bases : AreBasesThere base rows
 
 -- The journal of a site is what the rows of its store say: the first is the base of a new site, and the others were done again.
 pub record IsJournalOfRows (rows : List Stored) (store : StoreJournal) : Type 0 where

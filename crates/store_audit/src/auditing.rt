@@ -1,13 +1,15 @@
 //! An audit of the stores of all sites.
-ghost use Rattle.std.specs.Prelude.{◌≡◌, ◌⊎◌, ◌↔◌, ◌++◌, ℕ, IfErr, IfOk, IsErrOf, None, OnOk};
+ghost use Rattle.std.specs.Prelude.{◌≡◌, ◌⊎◌, ◌↔◌, ◌++◌, ℕ, IfErr, IfOk, IsErrOf, None, OnErr, OnOk};
 ghost use Rattle.std.specs.Prelude.{Some, count_by, false, true};
 ghost use Rattle.std.specs.List.{All};
 ghost use Rattle.std.specs.List.Sorted.{IsNonDecreasingBy};
 ghost use Rattle.std.specs.Io.KnownBytes.{Appends};
+ghost use Rattle.ami_text.specs.Devices.{HasTaken};
 ghost use Rattle.event_script.specs.Lines.{HasLimits, is_unsaid, script_of};
 ghost use Rattle.site_audit.specs.Runs.{AreSites, IsRun, IsStuck};
 ghost use Rattle.store_audit.specs.Audits.{EndsAs, IsAuditCause, IsEndOf, IsEndSorted};
-ghost use Rattle.store_audit.specs.Audits.{IsExplainedEnd, IsSortedCause, IsStuckEnd};
+ghost use Rattle.store_audit.specs.Audits.{IsExplainedEnd, IsPartsCause, IsSortedCause};
+ghost use Rattle.store_audit.specs.Audits.{IsStuckEnd};
 ghost use Rattle.store_audit.specs.Stores.{AreCounted, AreFresh, IsRowAt, IsStepOf};
 ghost use Rattle.store_audit.specs.Stores.{site_number};
 
@@ -52,6 +54,7 @@ fn script_fault(fault: EventsFault) -> StoreAuditFault
 }
 
 // Writes a heading and the script of events. Returns how many events no line says.
+#[tactic(auto, using(crate::proofs::Ending::begun_first, crate::proofs::Ending::begun_then))]
 fn write_script<W: Sink>(
     alloc: Global,
     out: &mut W,
@@ -64,6 +67,8 @@ fn write_script<W: Sink>(
     ensures unsaid { IfOk result (λ unsaid. unsaid ≡ count_by is_unsaid events.now) }
     ensures limits { OnOk result (All HasLimits events.now) }
     ensures works { OnOk result (W.failed out.new ≡ false) }
+    ensures begun { OnErr result (HasTaken (W.taken out.old) (W.taken out.new)
+        (heading.now ++ script_of events.now)) }
     ensures write { IsErrOf result StoreAuditFault.Write ↔ (W.failed out.new ≡ true) }
     ensures causes { IfErr result (λ fault. (fault ≡ StoreAuditFault.Write)
         ⊎ (fault ≡ StoreAuditFault.Memory)) }
@@ -153,8 +158,8 @@ fn write_parts<W: Sink>(
         (W.taken out.old) (W.taken out.new) end) }
     ensures works { OnOk result (W.failed out.new ≡ false) }
     ensures write { IsErrOf result StoreAuditFault.Write ↔ (W.failed out.new ≡ true) }
-    ensures causes { IfErr result (λ fault. (fault ≡ StoreAuditFault.Write)
-        ⊎ (fault ≡ StoreAuditFault.Memory)) }
+    ensures fault { IfErr result (λ fault. IsPartsCause parts.now heading.now
+        (W.taken out.old) (W.taken out.new) fault) }
 {
     let Explanation { events, stuck } = explain_fresh(alloc, &parts.journals)?;
     let written = write_script(alloc, out, heading, &events);
@@ -204,9 +209,9 @@ fn audit_sorted<W: Sink>(
 /// Where no list of events explains all stores, the events are stuck: they give each site its first steps, and no further event gives
 /// any site its next. These are written in the same way, and the end names the first step of the least site that has one left.
 ///
-/// Errors, in order: `Doubled`, if two stores are of one site; `Missing`, if a lesser site than one of these has none; `OtherQueues`, if
-/// a store is of another list of queues than that of site 0; `Write`, if the writer fails or takes no bytes, and then a prefix of the text
-/// was written; `Memory`, at any time from then on. After the first three nothing was written.
+/// Errors, in order: `Doubled`, if two stores are of one site, the least that has two; `Missing`, if a lesser site than one of these has none; `OtherQueues`, if
+/// a store is of another list of queues than that of site 0; `Write`, if the writer fails or takes no bytes; `Memory`, at any time from then
+/// on. After the first three nothing was written, after `Write` a prefix of the text, and after `Memory` nothing or a prefix of it.
 pub fn audit_stores<W: Sink>(
     alloc: Global,
     out: &mut W,

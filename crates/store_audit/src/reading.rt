@@ -1,5 +1,6 @@
 //! The journal of a site, from the rows of its store.
-ghost use Rattle.std.specs.Prelude.{◌≡◌, ◌↔◌, ◌+◌, ◌++◌, ◌∷◌, [], List, IfErr, IfOk, IsTrue, OnOk};
+ghost use Rattle.std.specs.Prelude.{◌≡◌, ◌≢◌, ◌↔◌, ◌⊎◌, ◌+◌, ◌++◌, ◌∷◌, [], List};
+ghost use Rattle.std.specs.Prelude.{IfErr, IfOk, IsTrue, OnOk};
 ghost use Rattle.std.specs.Prelude.{false, length};
 ghost use Rattle.replica.specs.Deeds.{IsNew};
 ghost use Rattle.replica.specs.Site.{IsSameSite};
@@ -10,7 +11,6 @@ ghost use Rattle.stored_steps.specs.Bases.{IsReadBase};
 ghost use Rattle.stored_steps.specs.StartRows.{is_start};
 ghost use Rattle.stored_steps.specs.StepRows.{IsWithinLimits, row_of};
 ghost use Rattle.stored_steps.specs.Stored.{Stored};
-ghost use Rattle.store_audit.specs.StoreRows.{rows_with_steps};
 ghost use Rattle.store_audit.specs.Walks.{BeginsWalk, HasAddedStep, HasWalked, IsJournalOfRows};
 ghost use Rattle.store_audit.specs.Walks.{IsSaidBase, SaysWalk};
 ghost use Rattle.store_audit.specs.RowCauses.{IsBaseCause, IsBeginCause, IsJournalCause};
@@ -41,7 +41,7 @@ fn is_new(replica: &Replica) -> bool
 
 // Whether two replicas say the same.
 fn is_same(one: &Replica, other: &Replica) -> bool
-    ensures { IsTrue result → IsSameSite one.now other.now }
+    ensures { IsTrue result ↔ IsSameSite one.now other.now }
 {
     let (count, time, frames) = one.last();
     let (other_count, other_time, other_frames) = other.last();
@@ -56,7 +56,8 @@ fn is_same(one: &Replica, other: &Replica) -> bool
 
 // Why the first row is no base, as the fault of a journal.
 fn base_fault(fault: BaseFault) -> JournalFault
-    ensures { IsBaseCause result }
+    ensures { ((fault ≡ BaseFault.Memory) × (result ≡ JournalFault.Memory))
+        ⊎ ((fault ≢ BaseFault.Memory) × (result ≡ JournalFault.Base fault)) }
 {
     match fault {
         BaseFault::Memory => JournalFault::Memory,
@@ -67,7 +68,7 @@ fn base_fault(fault: BaseFault) -> JournalFault
 // The base that the first row says, of whatever site.
 fn first_base(alloc: Global, row: &StoredRow) -> Result<StoredBase, JournalFault>
     ensures read { IfOk result (λ base. IsReadBase row.now base) }
-    ensures fault { IfErr result IsBaseCause }
+    ensures fault { IfErr result (λ fault. IsBaseCause row.now fault) }
 {
     let (site, list) = match base_heading(alloc, row) {
         Ok(heading) => heading,
@@ -124,11 +125,22 @@ fn begin(alloc: Global, first: u64, row: &StoredRow) -> Result<Walk, JournalFaul
 
 // Whether a base says what the site of a walk is, with the name of its store and as many starts.
 fn is_said(base: &StoredBase, walk: &Walk) -> bool
-    ensures { IsTrue result → SaysWalk walk.now base.now }
+    ensures { IsTrue result ↔ SaysWalk walk.now base.now }
 {
     base.name == walk.name
         && base.starts == walk.starts
         && is_same(walk.journal.replica(), &base.replica)
+}
+
+// Why a base behind the first row, which has this position, isn't read, as the fault of a journal.
+fn kept_fault(position: u64, fault: BaseFault) -> JournalFault
+    ensures { ((fault ≡ BaseFault.Memory) × (result ≡ JournalFault.Memory))
+        ⊎ ((fault ≢ BaseFault.Memory) × (result ≡ JournalFault.Damaged position)) }
+{
+    match fault {
+        BaseFault::Memory => JournalFault::Memory,
+        _ => JournalFault::Damaged(position),
+    }
 }
 
 // Checks that a base behind the first row, which has this position, says what the site is there.
@@ -139,13 +151,12 @@ fn check_base(
     row: &StoredRow,
 ) -> Result<(), JournalFault>
     ensures said { OnOk result (IsSaidBase walk.now row.now) }
-    ensures fault { IfErr result (λ fault. IsKeptBaseCause position fault) }
+    ensures fault { IfErr result (λ fault. IsKeptBaseCause walk.now position row.now fault) }
 {
     let replica = walk.journal.replica();
     let base = match base_of_row(alloc, replica.site(), replica.list(), row) {
         Ok(base) => base,
-        Err(BaseFault::Memory) => return Err(JournalFault::Memory),
-        Err(_) => return Err(JournalFault::Damaged(position)),
+        Err(fault) => return Err(kept_fault(position, fault)),
     };
     let is_said = is_said(&base, walk);
     drop(base);
@@ -215,8 +226,8 @@ fn walk_row(
         → position ≡ length rows + 1
         → OnOk result (HasWalked base (rows ++ row.now ∷ []) walk.new) }
     ensures fault { (base : StoredBase) (rows : List Stored) → HasWalked base rows walk.old
-        → IfErr result (λ fault. IsRowCause walk.old.journal.replica
-        (length (rows_with_steps rows)) position row.now fault) }
+        → IfErr result (λ fault.
+        IsRowCause base rows walk.old.journal.replica position row.now fault) }
 {
     if row.kind() == RowKind::Base.number() {
         return check_base(alloc, walk, position, row);

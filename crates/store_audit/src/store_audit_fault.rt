@@ -16,7 +16,7 @@ pub enum StoreAuditFault {
     /// The writer failed, or took no bytes. A prefix of the text was written.
     #[error("write failed")]
     Write,
-    /// An allocation was refused.
+    /// An allocation was refused. Nothing was written, or a prefix of the text.
     #[error("out of memory")]
     Memory,
 }

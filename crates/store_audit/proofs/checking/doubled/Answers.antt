@@ -33,4 +33,4 @@ returns-then-site-lesser-clause-found c =
     let one_is = slice_get_read c.args.stores.now (length c.args.stores.now) _ c.index-stores-before.result refl (omega (arith, low)) c.index-stores-before.is in
     let other_is = slice_get_read c.args.stores.now (length c.args.stores.now) c.loop-place.place c.index-stores-place.result refl low c.index-stores-place.is in
     twice_at c.args.stores.now _ c.loop-place.place c.index-stores-before.result c.index-stores-place.result c.site_of-site.result c.site_of-lesser.result c.requires
-    (omega (arith, some)) one_is other_is c.site_of-lesser.ensures.value c.site_of-site.ensures.value c.if-site-lesser.true
+    c.loop-place.invariant.rising (omega (arith, some)) one_is other_is c.site_of-lesser.ensures.value c.site_of-site.ensures.value c.if-site-lesser.true

@@ -1,6 +1,14 @@
-use Rattle.std.proofs.Common.{IsTrue, true≢false, refl, sym, subst, ◌∙◌, inr}
-use Rattle.store_audit.proofs.Walking.{begun}
+use Rattle.std.proofs.Common.{◌≡◌, Err, IfErr, IsTrue, true≢false, rules, refl, sym, subst, ◌∙◌, inr}
+use Rattle.store_audit.specs.RowCauses.{IsBeginCause}
+use Rattle.store_audit.proofs.Walking.{begun, not_begun}
 use Rattle.store_audit.proofs.reading.begin.Goals as goal
+
+-- no base is read
+pub returns-in_err-replica-clause-fault : goal.returns-in_err-replica-clause-fault
+returns-in_err-replica-clause-fault c =
+    let same : c.from_residual.result ≡ Err c.in_err-replica.field-0.0 = search rules in
+    subst (λ r. IfErr r (λ fault. IsBeginCause c.args.first c.args.row.now fault)) (sym same)
+    (not_begun c.args.first c.args.row.now c.in_err-replica.field-0.0 c.in_err-replica.ensures.fault)
 
 -- the base is that of a site that isn't new
 pub returns-then-not-is_new-clause-fault : goal.returns-then-not-is_new-clause-fault

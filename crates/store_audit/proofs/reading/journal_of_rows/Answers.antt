@@ -1,8 +1,13 @@
-use Rattle.std.proofs.Common.{◌≡◌, Err, IfErr, rules, refl, subst, sym}
+use Rattle.std.proofs.Common.{◌≡◌, inl, Err, IfErr, rules, refl, subst, sym}
 use Rattle.std.proofs.lemmas.Grind.{merely}
+use Rattle.std.proofs.lemmas.List.{nil_from_length}
 use Rattle.store_audit.specs.RowCauses.{IsJournalCause}
 use Rattle.store_audit.proofs.Walking.{begin_cause, journal_walked, rest_cause, walked_counted}
 use Rattle.store_audit.proofs.reading.journal_of_rows.Goals as goal
+
+-- there is no row
+pub returns-in_default-clause-fault : goal.returns-in_default-clause-fault
+returns-in_default-clause-fault c = inl (nil_from_length c.args.rows.now c.in_default.ensures.cases, refl)
 
 -- the first row is refused
 pub returns-in_err-walk-clause-fault : goal.returns-in_err-walk-clause-fault

@@ -1,8 +1,8 @@
-use Rattle.std.proofs.Common.{◌≡◌, ◌∙◌, false, true, length, sym, refl, eq-eqb}
+use Rattle.std.proofs.Common.{◌≡◌, ◌∙◌, false, true, sym, refl, eq-eqb}
 use Rattle.std.proofs.lemmas.Bool.{ne_eqb}
 use Rattle.std.proofs.lemmas.Result.{on_ok_weaker}
 use Rattle.stored_steps.specs.StartRows.{is_start}
-use Rattle.store_audit.specs.StoreRows.{is_base, rows_with_steps}
+use Rattle.store_audit.specs.StoreRows.{is_base}
 use Rattle.store_audit.proofs.Walking.{base_walked, if_err_weaker, kept_cause, row_cause, start_walked, step_walked}
 use Rattle.store_audit.proofs.reading.walk_row.Goals as goal
 
@@ -16,7 +16,7 @@ pub returns-then-kind-number-clause-fault : goal.returns-then-kind-number-clause
 returns-then-kind-number-clause-fault c = λ base rows p.
     let kind : is_base c.args.row.now ≡ true = eq-eqb c.args.row.now.kind 1 (sym c.kind.ensures ∙ c.if-kind-number.true ∙ c.number.ensures) in
     if_err_weaker c.check_base.result
-    (λ fault cause. kept_cause c.args.walk.now.journal.replica (length (rows_with_steps rows)) c.args.position c.args.row.now fault kind cause) c.check_base.ensures.fault
+    (λ fault cause. kept_cause base rows c.args.walk.now c.args.position c.args.row.now fault kind p cause) c.check_base.ensures.fault
 
 -- a start
 pub returns-then-is_start-clause-walked : goal.returns-then-is_start-clause-walked
