@@ -4,3 +4,4 @@ mod Pieces
 mod Endings
 mod DeedCauses
 mod OneText
+mod BaseCauses

@@ -8,6 +8,7 @@ use Rattle.stored_steps.specs.declared.base_fault.BaseFault.TheVariants as base_
 use Rattle.stored_steps.specs.declared.row_fault.RowFault.{RowFault}
 use Rattle.stored_steps.specs.declared.row_fault.RowFault.TheVariants as row_faults
 use Rattle.stored_steps.specs.declared.row_kind.RowKind.TheVariants as kind
+use Rattle.stored_steps.specs.BaseFaults.{IsAnyBaseCause}
 use Rattle.stored_steps.specs.Kinds.{kind_number}
 use Rattle.stored_steps.specs.StartRows.{is_start}
 use Rattle.stored_steps.specs.StepRows.{HasRowFault}
@@ -27,7 +28,7 @@ pub record IsStepRow (row : Stored) : Type 0 where
 -- the row of a position is the cause of a fault; a failed write and a refused allocation have no cause in a row
 abbrev pub HasCause : ListingFault → ℕ → Stored → Type 0
 HasCause (Row place fault) position row = (place ≡ position) × IsStepRow row × HasRowFault fault row
-HasCause (Base place fault) position row = (place ≡ position) × (row.kind ≡ kind_number kind.Base)
+HasCause (Base place fault) position row = (place ≡ position) × (row.kind ≡ kind_number kind.Base) × IsAnyBaseCause row fault
 HasCause (Frame place fault) position row = (place ≡ position) × HasFrame row × HasFaultAlone row.bytes fault
 HasCause Write position row = ⊤
 HasCause Memory position row = ⊤

@@ -1,6 +1,8 @@
 //! The words of a base.
-ghost use Rattle.std.specs.Prelude.{◌≡◌, ◌<◌, ◌++◌, [], IfOk, OnOk, length, slice_index_or};
+ghost use Rattle.std.specs.Prelude.{◌≡◌, ◌⊎◌, ◌<◌, ◌++◌, [], IfErr, IfOk, OnOk, length};
+ghost use Rattle.std.specs.Prelude.{slice_index_or};
 ghost use Rattle.replica.specs.Site.{rows_of};
+ghost use Rattle.stored_steps.specs.BaseFaults.{IsAnyBaseCause};
 ghost use Rattle.stored_steps.specs.Bases.{IsReadBase};
 ghost use Rattle.store_listing.specs.Lines.{all_members, base_words, queue_members};
 ghost use Rattle.store_listing.specs.Lines.{store_words};
@@ -15,7 +17,9 @@ use stored_steps::{BaseFault, StoredBase, StoredRow, base_heading, base_of_row};
 
 /// The base that a row says. Errors as those of `base_heading`, and then as those of `base_of_row`.
 pub fn base_in(alloc: Global, row: &StoredRow) -> Result<StoredBase, BaseFault>
-    ensures { IfOk result (λ base. IsReadBase row.now base) }
+    ensures read { IfOk result (λ base. IsReadBase row.now base) }
+    ensures fault { IfErr result (λ fault. (fault ≡ BaseFault.Memory)
+        ⊎ IsAnyBaseCause row.now fault) }
 {
     let (site, list) = base_heading(alloc, row)?;
     let base = base_of_row(alloc, site, &list, row);
