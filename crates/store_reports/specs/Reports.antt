@@ -1,8 +1,8 @@
 -- What reports over the stores in files write, and why they end.
-use Rattle.std.specs.Prelude.{ℕ, ⊤, ◌≡◌, ◌≢◌, ◌<◌, Bool, List, length, Option}
+use Rattle.std.specs.Prelude.{ℕ, ⊤, ◌≡◌, ◌≢◌, ◌<◌, ◌⊎◌, Bool, List, length, Option}
 use Rattle.std.specs.List.{All}
 use Rattle.stored_steps.specs.Stored.{Stored}
-use Rattle.store_audit.specs.Audits.{AreRefused, IsEndOf}
+use Rattle.store_audit.specs.Audits.{AreRefused, IsBegun, IsEndOf}
 use Rattle.store_audit.specs.RowCauses.{IsJournalCause}
 use Rattle.store_audit.specs.Walks.{IsJournalOfRows}
 use Rattle.store_audit.specs.declared.audit_end.AuditEnd.{AuditEnd}
@@ -87,12 +87,20 @@ pub record AreOtherSites (files : ℕ) (before after : Option (List ℕ)) (fault
   pub each : All IsOfFile stores
   pub refused : AreRefused stores fault before after
 
--- an audit of the stores in `files` files fails for this cause; nothing was written if a file or the sites are at fault
+-- a prefix of the text of the stores in `files` files was written
+pub record HasBegunAudit (files : ℕ) (before after : Option (List ℕ)) : Type 0 where
+  pub stores : List StoreJournal
+  pub count : length stores ≡ files
+  pub each : All IsOfFile stores
+  pub begun : IsBegun stores before after
+
+-- an audit of the stores in `files` files fails for this cause; nothing was written if a file or the sites are at fault, otherwise a
+-- prefix of its text
 abbrev pub IsAuditFault : ℕ → Option (List ℕ) → Option (List ℕ) → ReportFault → Type 0
 IsAuditFault files before after (File file cause) = (file < files) × IsJournalCauseOfFile cause × (after ≡ before)
 IsAuditFault files before after (Sites fault) = AreOtherSites files before after fault
-IsAuditFault files before after Write = ⊤
-IsAuditFault files before after Memory = ⊤
+IsAuditFault files before after Write = HasBegunAudit files before after
+IsAuditFault files before after Memory = (after ≡ before) ⊎ HasBegunAudit files before after
 
 -- ---- steps
 
@@ -121,4 +129,4 @@ abbrev pub IsListFault : Bool → Option (List ℕ) → Option (List ℕ) → Re
 IsListFault with_frames before after (File file cause) = (file ≡ 0) × IsListCause with_frames before after cause
 IsListFault with_frames before after (Sites fault) = ⊥
 IsListFault with_frames before after Write = HasStoppedAtRow with_frames before after listing_fault.Write
-IsListFault with_frames before after Memory = ⊤
+IsListFault with_frames before after Memory = (after ≡ before) ⊎ HasStoppedAtRow with_frames before after listing_fault.Memory

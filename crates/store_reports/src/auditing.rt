@@ -31,7 +31,8 @@ fn sites_fault(fault: StoreAuditFault) -> ReportFault
 ///
 /// Errors, in order: of the first file with one `File`, with its index and `Unreadable`, if the file or its log can't be read, with
 /// `Copy` and the fault of `rows_of_bytes`, or with `Journal` and the fault of `journal_of_rows`; `Sites`, with the fault of
-/// `audit_stores`. These write nothing. Then `Write`, and a prefix of the text was written. `Memory` may stand in place of each.
+/// `audit_stores`. These write nothing. Then `Write`, and a prefix of the text was written. `Memory` may stand in place of each, and then
+/// nothing was written, or a prefix of the text.
 pub fn audit_files<R: Files + AllocGlobal, W: Sink>(
     rt: &R,
     out: &mut W,
