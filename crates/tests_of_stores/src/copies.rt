@@ -1,8 +1,6 @@
 //! Stores that are read from the bytes of their files.
-ghost use Rattle.std.specs.Prelude.{◌<◌};
-
-use crate::shared::{ADD, SECOND_ADD, add_row, base_row};
-use site_store::{append, create, keep_rows, replace_base};
+use crate::shared::{ADD, SECOND_ADD, base_row, put, replace};
+use site_store::{create, keep_rows};
 use sqlite::{Connection, FileStore, Files, Options};
 use sqlite_disk::Memory;
 use std::alloc::Global;
@@ -33,24 +31,6 @@ fn new_store(rt: &impl Abort, alloc: Global) -> Store {
     assert!(*rt; create(&mut store, 0, &base) == Ok(true));
     drop(base);
     store
-}
-
-// Adds the row of an add.
-fn put(rt: &impl Abort, alloc: Global, store: &mut Store, at: u64, digits: &str)
-    requires { at < 100 }
-{
-    let row = add_row(rt, alloc, digits);
-    assert!(*rt; append(store, at, &row) == Ok(1));
-    drop(row);
-}
-
-// Puts a base in the place of all rows.
-fn replace(rt: &impl Abort, alloc: Global, store: &mut Store, at: u64)
-    requires { at < 100 }
-{
-    let base = base_row(rt, alloc);
-    assert!(*rt; replace_base(store, at, &base) == Ok(true));
-    drop(base);
 }
 
 // A copy of some bytes.

@@ -1,10 +1,7 @@
 //! Stores that keep the rows in whose place a base is put.
-ghost use Rattle.std.specs.Prelude.{◌<◌};
-
-use crate::shared::{ADD, SECOND_ADD, add_row, base_row, sales_list, site_0};
+use crate::shared::{ADD, SECOND_ADD, base_row, put, replace, sales_list, site_0};
 use site_store::{
-    append, create, is_step_schema, is_store_schema, keep_rows, keeps_rows, read_all, read_history,
-    replace_base, resume,
+    create, is_step_schema, is_store_schema, keep_rows, keeps_rows, read_all, read_history, resume,
 };
 use sqlite::{Connection, MemStore};
 use std::alloc::Global;
@@ -19,24 +16,6 @@ fn new_store(rt: &impl Abort, alloc: Global) -> Store {
     assert!(*rt; create(&mut store, 0, &base) == Ok(true));
     drop(base);
     store
-}
-
-// Adds the row of an add.
-fn put(rt: &impl Abort, alloc: Global, store: &mut Store, at: u64, digits: &str)
-    requires { at < 100 }
-{
-    let row = add_row(rt, alloc, digits);
-    assert!(*rt; append(store, at, &row) == Ok(1));
-    drop(row);
-}
-
-// Puts a base in the place of all rows.
-fn replace(rt: &impl Abort, alloc: Global, store: &mut Store, at: u64)
-    requires { at < 100 }
-{
-    let base = base_row(rt, alloc);
-    assert!(*rt; replace_base(store, at, &base) == Ok(true));
-    drop(base);
 }
 
 // Asserts the position of the first of all rows, and the kinds of all rows.

@@ -1,6 +1,10 @@
 //! What these tests make and assert alike.
+ghost use Rattle.std.specs.Prelude.{◌<◌};
+
 use dots::{Bytes, Interface, Label, Penalty, QueueName, SiteId, Text80};
 use replica::{Command, QueueList, Replica};
+use site_store::{append, replace_base};
+use sqlite::{Alter, Connection};
 use std::alloc::Global;
 use std::process::Abort;
 use stored_steps::{NAME_BYTES, RowKind, StoredRow, row_of_base};
@@ -83,6 +87,30 @@ pub(crate) fn sales_list(rt: &impl Abort, alloc: Global) -> QueueList {
 // Site 0, of the queue `sales`, which knows nothing.
 pub(crate) fn new_site_0(rt: &impl Abort, alloc: Global) -> Replica {
     Replica::new(alloc, site_0(rt), sales_list(rt, alloc))
+}
+
+// Adds the row of an add to a store.
+pub(crate) fn put<S: Alter>(
+    rt: &impl Abort,
+    alloc: Global,
+    store: &mut Connection<S>,
+    at: u64,
+    digits: &str,
+)
+    requires { at < 100 }
+{
+    let row = add_row(rt, alloc, digits);
+    assert!(*rt; append(store, at, &row) == Ok(1));
+    drop(row);
+}
+
+// Puts a base in the place of all rows of a store.
+pub(crate) fn replace<S: Alter>(rt: &impl Abort, alloc: Global, store: &mut Connection<S>, at: u64)
+    requires { at < 100 }
+{
+    let base = base_row(rt, alloc);
+    assert!(*rt; replace_base(store, at, &base) == Ok(true));
+    drop(base);
 }
 
 // The row of the base of site 0, of the queue `sales`, which knows nothing and was started 3 times.

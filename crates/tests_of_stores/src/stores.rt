@@ -1,10 +1,8 @@
 //! Stores over a database in memory.
-ghost use Rattle.std.specs.Prelude.{◌<◌};
-
-use crate::shared::{ADD, NAME, SECOND_ADD, THIRD_ADD, add_row, base_row, sales_list, site_0};
+use crate::shared::{ADD, NAME, SECOND_ADD, THIRD_ADD, add_row, base_row, put, sales_list, site_0};
 use site_store::{
-    Listed, OpenFault, ResumedSite, append, append_all, create, is_blank_schema, is_step_schema,
-    read_all, replace_base, resume,
+    Listed, OpenFault, ResumedSite, append_all, create, is_blank_schema, is_step_schema, read_all,
+    replace_base, resume,
 };
 use sqlite::{Connection, MemStore};
 use std::alloc::Global;
@@ -43,15 +41,6 @@ fn replaced(rt: &impl Abort, alloc: Global, store: &mut Store) -> bool {
     let replaced = replace_base(store, 20, &base);
     drop(base);
     replaced.expect(rt, "a database")
-}
-
-// Adds the row of an add.
-fn put(rt: &impl Abort, alloc: Global, store: &mut Store, at: u64, digits: &str)
-    requires { at < 100 }
-{
-    let row = add_row(rt, alloc, digits);
-    assert!(*rt; append(store, at, &row) == Ok(1));
-    drop(row);
 }
 
 // Adds the rows of two adds.
