@@ -88,8 +88,9 @@ order_cause sorted before after fault.Write same cause = absurd cause
 order_cause sorted before after fault.Memory same cause = absurd cause
 
 -- out of memory before anything was written
-pub none_written : (sorted : List StoreJournal) (before after : Option (List ℕ)) → after ≡ before → IsSortedCause sorted before after fault.Memory
-none_written sorted before after same = λ stores order. inl same
+pub none_written : (sorted : List StoreJournal) (before after : Option (List ℕ)) → after ≡ before → AreSites (journals_of sorted) → length sorted ≤ 64
+    → IsSortedCause sorted before after fault.Memory
+none_written sorted before after same sites few = λ stores order. inl (record { sorted = sorted; all = record { order = order; sites = sites; few = few }; unwritten = same })
 
 -- what was written of journals is of stores
 begun_sorted : (sorted : List StoreJournal) (parts : Parts) (heading : List ℕ) (before after : Option (List ℕ)) → AreParts sorted parts → heading ≡ lines_text (heading_lines sorted) → AreSites (journals_of sorted) → length sorted ≤ 64
@@ -106,7 +107,7 @@ begun_sorted sorted parts heading before after are text sites few begun = λ sto
 pub parts_cause : (sorted : List StoreJournal) (parts : Parts) (heading : List ℕ) (before after : Option (List ℕ)) (cause : StoreAuditFault) → AreParts sorted parts → heading ≡ lines_text (heading_lines sorted) → AreSites (journals_of sorted)
     → length sorted ≤ 64 → IsPartsCause parts heading before after cause → IsSortedCause sorted before after cause
 parts_cause sorted parts heading before after fault.Write are text sites few begun = begun_sorted sorted parts heading before after are text sites few begun
-parts_cause sorted parts heading before after fault.Memory are text sites few (inl none) = λ stores order. inl none
+parts_cause sorted parts heading before after fault.Memory are text sites few (inl none) = none_written sorted before after none sites few
 parts_cause sorted parts heading before after fault.Memory are text sites few (inr begun) = λ stores order. inr (begun_sorted sorted parts heading before after are text sites few begun stores order)
 parts_cause sorted parts heading before after (fault.Doubled site) are text sites few cause = absurd cause
 parts_cause sorted parts heading before after (fault.Missing site) are text sites few cause = absurd cause

@@ -70,6 +70,7 @@ begun base walk journal new fits name starts positions = record {
   fresh = record { start = journal.start; base = same_new base.replica walk.journal.base journal.base new };
   limit = journal.limit_is;
   count = journal.count ∙ sym (ap length journal.steps);
+  few = subst (λ (l : List Step). length l ≤ MOST_STEPS) (sym journal.steps) (omega arith);
   done = record {
     began = journal.base;
     led = subst (IsSameSite base.replica) (sym journal.replica_is) (site_itself base.replica);
@@ -195,6 +196,7 @@ base_walked base rows walk row kind said p =
       fresh = p.fresh;
       limit = p.limit;
       count = p.count;
+      few = p.few;
       done = record {
         began = p.done.began;
         led = subst (λ (l : List Stored). RowsLead base.replica l walk.journal.replica) (sym (filter_no (λ r. not (is_base r)) rows row (ap not kind))) p.done.led;
@@ -241,11 +243,22 @@ start_walked base rows old new row kind start journal positions name starts p =
       fresh = subst IsFromNew (sym journal) p.fresh;
       limit = ap (λ (j : JournalState). j.limit) journal ∙ p.limit;
       count = subst (λ (j : JournalState). j.count ≡ length j.steps) (sym journal) p.count;
+      few = subst (λ (j : JournalState). length j.steps ≤ MOST_STEPS) (sym journal) p.few;
       done = subst (λ (j : JournalState). AreDoneAgain base (rows ++ row ∷ []) j new.positions.items) (sym journal)
           (subst (AreDoneAgain base (rows ++ row ∷ []) old.journal) (sym positions) done);
       name = name ∙ p.name;
       starts = one_more_start old.starts new.starts _ base.starts _ was starts more;
     }
+
+-- a journal that isn't full has fewer than the most steps
+pub room_left : (j : JournalState) → (IsFull j → ⊥) → j.limit ≡ MOST_STEPS → length j.steps < MOST_STEPS
+room_left j room limit =
+    let none : j.limit ≤ length j.steps → ⊥ = λ full. room (inl full) in
+    subst (λ n. length j.steps < n) limit (omega (arith, none))
+
+-- with one step more it has at most these
+one_more_few : (before now most : ℕ) → before < most → now ≡ before + 1 → now ≤ most
+one_more_few before now most less more = omega (arith, less, more)
 
 -- a step
 pub step_walked : (base : StoredBase) (rows : List Stored) (old new : Walk) (position : ℕ) (row : Stored) → is_base row ≡ false → is_start row ≡ false
@@ -265,6 +278,7 @@ step_walked base rows old new position row kind start at added p =
       fresh = record { start = a.start ∙ p.fresh.start; base = subst IsNew (sym a.base) p.fresh.base };
       limit = a.limit ∙ p.limit;
       count = one_more _ _ _ _ a.count p.count more;
+      few = one_more_few (length old.journal.steps) (length new.journal.steps) MOST_STEPS (room_left old.journal added.room p.limit) more;
       done = record {
         began = subst (IsSameSite base.replica) (sym a.base) p.done.began;
         led = subst (λ (l : List Stored). RowsLead base.replica l new.journal.replica) (sym (filter_yes (λ r. not (is_base r)) rows row (ap not kind))) led;
@@ -321,6 +335,7 @@ stops_here base rows walk row i position fault less is p at cause = record {
   site = walk.journal.replica;
   led = p.done.led;
   bases = p.done.bases;
+  few = subst (λ n. n ≤ MOST_STEPS) p.done.each p.few;
   cause = subst (λ n. IsRowCause base (take i rows) walk.journal.replica n row fault) at cause;
 }
 
@@ -332,8 +347,9 @@ pub step_cause : (j : JournalState) (position : ℕ) (row : Stored) (step : Step
 step_cause j position row step (fault.Base why) is within start p = absurd p
 step_cause j position row step fault.NotFromStart is within start p = absurd p
 step_cause j position row step (fault.Row at why) is within start p = absurd p
-step_cause j position row step (fault.Damaged at) is within start p = (p.0, leads_nowhere j step row is within start p.1)
-step_cause j position row step fault.TooMany is within start p = p
+step_cause j position row step (fault.Damaged at) is within start p =
+    (p.0, record { stands = record { step = step; row_is = is; within = within }; room = p.1; nowhere = leads_nowhere j step row is within start p.2 })
+step_cause j position row step fault.TooMany is within start p = (record { step = step; row_is = is; within = within }, p)
 step_cause j position row step fault.Memory is within start p = p
 
 -- a row whose step isn't added is refused behind the rows before it
@@ -342,9 +358,11 @@ pub row_cause : (base : StoredBase) (rows : List Stored) (walk : Walk) (position
 row_cause base rows walk position row (fault.Base why) kind start p cause = absurd cause
 row_cause base rows walk position row fault.NotFromStart kind start p cause = absurd cause
 row_cause base rows walk position row (fault.Row at why) kind start p cause = (cause.0, steps_here row kind start, cause.1)
-row_cause base rows walk position row (fault.Damaged at) kind start p cause = (cause.0, inr (record { kind = kind; nowhere = cause.1 }))
+row_cause base rows walk position row (fault.Damaged at) kind start p cause =
+    let room = subst (λ n. n < MOST_STEPS) p.done.each (room_left walk.journal cause.1.room p.limit) in
+    (cause.0, inr (record { kind = kind; stands = cause.1.stands; room = room; nowhere = cause.1.nowhere }))
 row_cause base rows walk position row fault.TooMany kind start p cause =
-    (steps_here row kind start, subst (λ n. MOST_STEPS ≤ n) p.done.each (full_steps walk.journal cause p.limit p.count))
+    (steps_here row kind start, cause.0, subst (λ n. MOST_STEPS ≤ n) p.done.each (full_steps walk.journal cause.1 p.limit p.count))
 row_cause base rows walk position row fault.Memory kind start p cause = cause
 
 -- a base that says what the site is behind rows says what the site of a walk over them is
@@ -424,7 +442,7 @@ not_begun first row fault.Memory cause = cause
 pub begin_cause : (first : ℕ) (rows : List Stored) (row : Stored) (rest : List Stored) (fault : JournalFault) → rows ≡ row ∷ rest → IsBeginCause first row fault
     → IsJournalCause first rows fault
 begin_cause first rows row rest (fault.Base why) are cause = inr (record { first = row; rest = rest; rows_are = are; cause = cause })
-begin_cause first rows row rest fault.NotFromStart are (inl late) = inl late
+begin_cause first rows row rest fault.NotFromStart are (inl late) = inl (late.0, record { first = row; rest = rest; rows_are = are; some = late.1 })
 begin_cause first rows row rest fault.NotFromStart are (inr old) = inr (record { first = row; rest = rest; rows_are = are; old = old })
 begin_cause first rows row rest (fault.Row at why) are cause = absurd cause
 begin_cause first rows row rest (fault.Damaged at) are cause = absurd cause
@@ -433,13 +451,13 @@ begin_cause first rows row rest fault.Memory are cause = cause
 
 -- and a further row
 pub rest_cause : (first : ℕ) (rows : List Stored) (row : Stored) (rest : List Stored) (base : StoredBase) (fault : JournalFault) → rows ≡ row ∷ rest → IsReadBase row base
-    → StopsFor base rest fault → IsJournalCause first rows fault
-rest_cause first rows row rest base (fault.Base why) are read stops = absurd stops.cause
-rest_cause first rows row rest base fault.NotFromStart are read stops = absurd stops.cause
-rest_cause first rows row rest base (fault.Row at why) are read stops = record { first = row; rest = rest; rows_are = are; base = base; base_is = read; stops = stops }
-rest_cause first rows row rest base (fault.Damaged at) are read stops = record { first = row; rest = rest; rows_are = are; base = base; base_is = read; stops = stops }
-rest_cause first rows row rest base fault.TooMany are read stops = record { first = row; rest = rest; rows_are = are; base = base; base_is = read; stops = stops }
-rest_cause first rows row rest base fault.Memory are read stops = tt
+    → IsNew base.replica → first ≡ 0 → StopsFor base rest fault → IsJournalCause first rows fault
+rest_cause first rows row rest base (fault.Base why) are read new start stops = absurd stops.cause
+rest_cause first rows row rest base fault.NotFromStart are read new start stops = absurd stops.cause
+rest_cause first rows row rest base (fault.Row at why) are read new start stops = record { start = start; first = row; rest = rest; rows_are = are; base = base; base_is = read; new = new; stops = stops }
+rest_cause first rows row rest base (fault.Damaged at) are read new start stops = record { start = start; first = row; rest = rest; rows_are = are; base = base; base_is = read; new = new; stops = stops }
+rest_cause first rows row rest base fault.TooMany are read new start stops = record { start = start; first = row; rest = rest; rows_are = are; base = base; base_is = read; new = new; stops = stops }
+rest_cause first rows row rest base fault.Memory are read new start stops = tt
 
 -- ---- the journal
 

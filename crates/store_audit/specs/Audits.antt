@@ -72,6 +72,12 @@ pub record AreRefused (stores : List StoreJournal) (fault : StoreAuditFault) (be
 abbrev pub AreOfJournals : List JournalState → List Event → Type 0
 AreOfJournals journals events = IsRun journals events ⊎ ((site : ℕ) × (place : ℕ) × IsStuck journals site place events)
 
+-- the stores are those of all sites, and nothing was written
+pub record AreUnwritten (stores : List StoreJournal) (before after : Option (List ℕ)) : Type 0 where
+  pub sorted : List StoreJournal
+  pub all : AreAllSites stores sorted
+  pub unwritten : after ≡ before
+
 -- a prefix of the heading of stores and the script of their events was written
 pub record IsBegun (stores : List StoreJournal) (before after : Option (List ℕ)) : Type 0 where
   pub sorted : List StoreJournal
@@ -86,7 +92,7 @@ IsAuditCause stores before after (Doubled site) = AreRefused stores (Doubled sit
 IsAuditCause stores before after (Missing site) = AreRefused stores (Missing site) before after
 IsAuditCause stores before after (OtherQueues site) = AreRefused stores (OtherQueues site) before after
 IsAuditCause stores before after Write = IsBegun stores before after
-IsAuditCause stores before after Memory = (after ≡ before) ⊎ IsBegun stores before after
+IsAuditCause stores before after Memory = AreUnwritten stores before after ⊎ IsBegun stores before after
 
 -- an audit of stores in the order of their sites fails for this cause
 abbrev pub IsSortedCause : List StoreJournal → Option (List ℕ) → Option (List ℕ) → StoreAuditFault → Type 0

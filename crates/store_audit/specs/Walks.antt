@@ -1,11 +1,12 @@
 -- The journal of a site, whose steps are those that the rows of its store say.
-use Rattle.std.specs.Prelude.{ℕ, ◌≡◌, ◌+◌, ◌-◌, ◌^◌, ◌++◌, min, true, List, [], ◌∷◌, length, take, Some, slice_get, count_by}
+use Rattle.std.specs.Prelude.{ℕ, ◌≡◌, ◌≤◌, ◌+◌, ◌-◌, ◌^◌, ◌++◌, min, true, List, [], ◌∷◌, length, take, Some, slice_get, count_by}
 use Rattle.std.specs.List.{All}
+use Rattle.replica.specs.Deeds.{IsNew}
 use Rattle.replica.specs.Site.{IsSameSite, SiteState}
 use Rattle.site_audit.specs.Runs.{IsFromNew}
 use Rattle.site_journal.specs.declared.journaled.TheConstants.{MOST_STEPS}
 use Rattle.site_journal.specs.declared.step.Step.{Step}
-use Rattle.site_journal.specs.Journals.{HasAdded, JournalState}
+use Rattle.site_journal.specs.Journals.{HasAdded, IsFull, JournalState}
 use Rattle.stored_steps.specs.declared.base.StoredBase.{StoredBase}
 use Rattle.stored_steps.specs.Bases.{IsReadBase}
 use Rattle.stored_steps.specs.RowsLead.{RowsLead}
@@ -65,14 +66,16 @@ pub record HasWalked (base : StoredBase) (rows : List Stored) (walk : Walk) : Ty
   pub fresh : IsFromNew walk.journal
   pub limit : walk.journal.limit ≡ MOST_STEPS
   pub count : walk.journal.count ≡ length walk.journal.steps
+  pub few : length walk.journal.steps ≤ MOST_STEPS
   pub done : AreDoneAgain base rows walk.journal walk.positions.items
   pub name : walk.name ≡ base.name
   pub starts : walk.starts ≡ starts_with base.starts rows
 
--- a walk begins with the base in a row
+-- a walk begins with the base of a new site in a row
 pub record BeginsWalk (row : Stored) (walk : Walk) : Type 0 where
   pub base : StoredBase
   pub base_is : IsReadBase row base
+  pub new : IsNew base.replica
   pub walked : HasWalked base [] walk
 
 -- a base says what the site of a walk is, with the name of its store and as many starts
@@ -92,6 +95,7 @@ pub record HasAddedStep (old : Walk) (position : ℕ) (row : Stored) (new : Walk
   pub step : Step
   pub row_is : row_of step ≡ Some row
   pub within : IsWithinLimits step
+  pub room : IsFull old.journal → ⊥
   pub added : HasAdded old.journal step new.journal
   pub positions : new.positions.items ≡ old.positions.items ++ position ∷ []
   pub name : new.name ≡ old.name

@@ -4,7 +4,7 @@ ghost use Rattle.std.specs.Prelude.{IfErr, IfOk, IsTrue, OnOk};
 ghost use Rattle.std.specs.Prelude.{false, length};
 ghost use Rattle.replica.specs.Deeds.{IsNew};
 ghost use Rattle.replica.specs.Site.{IsSameSite};
-ghost use Rattle.site_journal.specs.Journals.{HasAdded, IsNewJournal};
+ghost use Rattle.site_journal.specs.Journals.{HasAdded, IsFull, IsNewJournal};
 ghost use Rattle.site_journal.specs.declared.journaled.TheConstants.{MOST_STEPS};
 ghost use Rattle.stored_steps.specs.declared.base.StoredBase.{StoredBase};
 ghost use Rattle.stored_steps.specs.Bases.{IsReadBase};
@@ -183,6 +183,7 @@ fn step_at(alloc: Global, position: u64, row: &StoredRow) -> Result<Step, Journa
 // Does the step of the row of this position again.
 fn replay_at(journal: &mut Journaled, position: u64, step: &Step) -> Result<(), JournalFault>
     ensures added { OnOk result (HasAdded journal.old step.now journal.new) }
+    ensures room { OnOk result (IsFull journal.old → ⊥) }
     ensures fault { IfErr result (λ fault. IsReplayCause journal.old position step.now fault) }
 {
     match journal.replay(step) {
@@ -260,7 +261,8 @@ fn walk_rows(alloc: Global, walk: &mut Walk, rows: &[StoredRow]) -> Result<(), J
 /// Errors, in order: `Base`, with the fault of `base_heading` or `base_of_row`, also where there is no row; `NotFromStart`, if `first`
 /// isn't 0 or the base isn't that of a new site. Then, of the first row that has one: `Row`, with the position and the fault of
 /// `step_of_row`; `TooMany`, if 1,000,000 steps were done before; `Damaged`, with the position, if the site refuses the step, gives
-/// another answer or other bytes, or a base doesn't say what the site is. `Memory` may stand in place of each but `Row`.
+/// another answer or other bytes, or a base doesn't say what the site is. `Memory` may stand in place of a `Base` that those two may so
+/// replace, of `NotFromStart`, `TooMany` and `Damaged`.
 pub fn journal_of_rows(
     alloc: Global,
     first: u64,

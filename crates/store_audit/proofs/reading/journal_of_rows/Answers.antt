@@ -20,7 +20,8 @@ returns-in_err-walk-clause-fault c =
 pub returns-in-Err-clause-fault : goal.returns-in-Err-clause-fault
 returns-in-Err-clause-fault c =
     let b = c.in_ok-walk.ensures.begun in
-    rest_cause c.args.first c.args.rows.now c.in-Some.row.now c.in-Some.rest.now b.base c.in-Err.fault c.in-Some.ensures.cases.0 b.base_is (c.in-Err.ensures.fault b.base b.walked)
+    rest_cause c.args.first c.args.rows.now c.in-Some.row.now c.in-Some.rest.now b.base c.in-Err.fault c.in-Some.ensures.cases.0 b.base_is b.new c.in_ok-walk.ensures.first
+    (c.in-Err.ensures.fault b.base b.walked)
 
 -- all rows were done again
 pub returns-in-Ok-clause-journal : goal.returns-in-Ok-clause-journal
