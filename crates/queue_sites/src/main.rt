@@ -7,6 +7,7 @@ mod logging;
 mod reporting;
 mod serving;
 mod storing;
+mod system;
 
 use command_line::{Exit, Request, read_command_line, run_input};
 use event_log::EventLog;
@@ -22,6 +23,7 @@ use std::rt::{Env, Files};
 use std::sync::{Arc, Wait};
 use std::thread::Threads;
 use std::time::Clock;
+use system::System;
 
 fn main(rt: HostRuntime) -> ExitCode {
     match run(&rt, &rt) {
@@ -74,17 +76,7 @@ fn exit_of<R: Eprint>(rt: &R, end: Result<u64, ScriptFault>) -> io::Result<Exit>
 }
 
 // Serves what is requested until it ends or the program is stopped.
-fn serve_request<
-    R: AllocGlobal
-        + Print
-        + Eprint
-        + Net<Listener = TcpListener, Stream = TcpStream>
-        + Threads
-        + Wait
-        + Clock
-        + RandomSource
-        + Sync,
->(
+fn serve_request<R: System>(
     rt: &R,
     host: &HostRuntime,
     request: &Request,
@@ -101,20 +93,11 @@ fn serve_request<
 }
 
 // Serves what is requested, and logs.
-fn serve_logged<
-    R: AllocGlobal
-        + Print
-        + Eprint
-        + Net<Listener = TcpListener, Stream = TcpStream>
-        + Threads
-        + Wait
-        + Clock
-        + RandomSource
-        + Sync
-        + Send
-        + Copy
-        + 'static,
->(rt: &R, host: &HostRuntime, request: &Request) -> io::Result<Exit> {
+fn serve_logged<R: System + Send + Copy + 'static>(
+    rt: &R,
+    host: &HostRuntime,
+    request: &Request,
+) -> io::Result<Exit> {
     let logging = match Logging::start(rt) {
         Ok(logging) => logging,
         Err(why) => return failed(rt, &why),

@@ -4,6 +4,7 @@ ghost use Rattle.server.specs.declared.serving.TheConstants.{LAST_PORT, MOST_SER
 ghost use Rattle.server.specs.declared.working.TheConstants.{MOST_PLACES};
 
 use crate::failed;
+use crate::system::System;
 use ami_text::StdSink;
 use command_line::Exit;
 use event_log::EventLog;
@@ -13,10 +14,7 @@ use serving_clients::ServerSettings;
 use site_service::serve_new_sites;
 use std::alloc::Global;
 use std::io;
-use std::net::{Net, TcpListener, TcpStream};
-use std::sync::{Arc, Wait};
-use std::thread::Threads;
-use std::time::Clock;
+use std::sync::Arc;
 
 // Whether the numbers of sites and places and the port are in range.
 pub(crate) fn are_in_range(settings: &ServerSettings) -> bool
@@ -39,16 +37,7 @@ pub(crate) fn refuse_numbers<R: Eprint>(rt: &R) -> io::Result<Exit> {
 }
 
 // Serves sites in memory until the program is stopped.
-pub(crate) fn serve<
-    R: AllocGlobal
-        + Print
-        + Eprint
-        + Net<Listener = TcpListener, Stream = TcpStream>
-        + Threads
-        + Wait
-        + Clock
-        + Sync,
->(
+pub(crate) fn serve<R: System>(
     rt: &R,
     settings: &ServerSettings,
     list: &QueueList,

@@ -1,6 +1,7 @@
 //! Serves sites over stores, which are files.
 use crate::failed;
 use crate::serving::{are_in_range, refuse_numbers};
+use crate::system::System;
 use ami_text::StdSink;
 use command_line::{Exit, StoreRequest};
 use event_log::EventLog;
@@ -10,10 +11,7 @@ use site_files::{SiteDatabase, StorePath};
 use site_service::serve_site_files;
 use std::alloc::Global;
 use std::io;
-use std::net::{Net, TcpListener, TcpStream};
-use std::sync::{Arc, Wait};
-use std::thread::Threads;
-use std::time::Clock;
+use std::sync::Arc;
 
 // Where the stores are that are requested.
 pub(crate) fn place_of(store: &StoreRequest) -> StorePath<'_> {
@@ -24,16 +22,7 @@ pub(crate) fn place_of(store: &StoreRequest) -> StorePath<'_> {
 }
 
 // Serves sites, whose stores are in a folder, until the program is stopped. It ends if all sites have ended, and the log has said why.
-pub(crate) fn serve<
-    R: AllocGlobal
-        + Print
-        + Eprint
-        + Net<Listener = TcpListener, Stream = TcpStream>
-        + Threads
-        + Wait
-        + Clock
-        + Sync,
->(
+pub(crate) fn serve<R: System>(
     rt: &R,
     host: &HostRuntime,
     settings: &ServerSettings,
