@@ -2,18 +2,23 @@
 
     tools/wrong_bodies.py [CRATE..]      those of all crates, or of these, which are proved first
     tools/wrong_bodies.py --control ..   tries none, and shows that such checks prove the functions
+    tools/wrong_bodies.py --goals ..     tries them, and writes into each file which goals it leaves open
     tools/wrong_bodies.py --self-test    tries edits that show nothing: each must fail by its name
 
 A wrong body is a file crates/NAME/wrong-bodies/WORDS.edit, named by what is wrong then:
 
     function: PATH
+    goal: NAME
     file: src/FILE.rt
     old: TEXT
     new: TEXT
 
 PATH is the function whose goal must refuse it, as a check prints it behind `fn`. There may be
 several pairs of `old` and `new`, and several files. Each TEXT is one line, and stands once in its
-file.
+file. A `goal` is one that the wrong body leaves open, with its arguments; there may be several, or
+none. The check is then given the very calls that the prover makes for it by itself. Where it has no
+call, the prover writes down how to prove the goal, which takes up to half of a check. A function
+with a tactic of its own has no such lines.
 
 The wrong bodies of a crate are put into one copy of it, and one check from nothing reads their
 functions and what these call. It says of each function whether a goal of its own is refused, or
@@ -55,6 +60,13 @@ OF_A_PROOF = r"(?:\./)?proofs/(\S+)/(Answers|Invariants|Proof)\.antt:\d+:\d+: er
 # Where a proof has lost an answer, an open goal may only lack that, unless the prover says this.
 IS_FALSE = "the facts known there allow values at which this goal is false"
 ENDED = re.compile(r"only=\d+ proved=\d+")
+# What the prover tries at a goal that nothing answers, and where its words come from.
+ANSWER = "first_of (search rules, grind (arith, common_steps))"
+COMMON = "Rattle.std.proofs.Common"
+WORDS = {"rules": COMMON, "arith": COMMON, "common_steps": "Rattle.std.proofs.lemmas.Grind"}
+GOAL = re.compile(r"(?m)^goal: ((\S+).*)\n")
+OFFER = re.compile(r"help: (?:write|add these lines to) (?:\./)?proofs/(\S+)/Answers\.antt\b")
+OFFERED = re.compile(r"    (\S+(?: \S+)*) = \?")
 NO_FUNCTION = re.compile(r"(?m)^rattle: error: .* has no function `(\S+)`")
 # A proof names what the edit took away, or cites one that does, or the check met a limit: none of
 # that says anything of the contract. Nor does an error of an invariant, whose types may have changed.
@@ -210,6 +222,20 @@ def copied(lines, item, name, new):
     return [*item.around, *body, *(["}"] if item.around else []), ""]
 
 
+def goals_in(lines):
+    """The goals that a check leaves open, by the path of their function's proof, each with its
+    arguments."""
+    goals, path = {}, ""
+    for line in lines:
+        if found := OFFER.match(line):
+            path = found[1]
+        elif not line.startswith("    "):
+            path = ""
+        elif path and (found := OFFERED.fullmatch(line)):
+            goals.setdefault(path, []).append(found[1])
+    return goals
+
+
 def functions_in(lines, crate):
     """What a check says of each function, and the other items that it refuses by themselves."""
     errors, goals, functions, others = {}, [], {}, []
@@ -272,9 +298,9 @@ class Tries:
 
     running, is_ending = set(), False  # the checks of all crates, and whether no more may begin
 
-    def __init__(self, rt, crate, files, guard):
+    def __init__(self, rt, crate, files, guard, notes_goals=False):
         self.rt, self.crate, self.files, self.guard = rt, crate, files, guard
-        self.place = folder(crate.name)
+        self.place, self.notes_goals = folder(crate.name), notes_goals
         self.edits, self.causes, self.checks, self.seconds = [], [], 0, 0.0
 
     def fail(self, edit, why):
@@ -368,7 +394,46 @@ class Tries:
                 placed = self.put_in_place(edit, room) if is_wrong else edit
             placed = placed or self.put_beside(edit, room, is_wrong)
             inside += [placed] if placed else []
+        for edit in inside:
+            if is_wrong and not self.notes_goals:
+                self.answer(edit, room)
         return inside
+
+    def answer(self, edit, room):
+        """Answers in a copy of the crate the goals that a wrong body leaves open, by the calls that the
+        prover makes for them by itself."""
+        goals, inner = GOAL.findall(edit.text), edit.tried_as.split("::")[1:]
+        if not goals:
+            return
+        at = "/".join([room, "proofs", *inner])
+        text = f"use Rattle.{'.'.join([self.crate.name, 'proofs', *inner])}.Goals as goal\n"
+        if os.path.isfile(f"{at}/Answers.antt"):
+            text = read(f"{at}/Answers.antt")
+        for word, module in WORDS.items():
+            if not re.search(rf"(?m)^use .*[{{ ]{word}[,}}]", text):
+                text = f"use {module}.{{{word}}}\n{text}"
+        answers = [f"\npub {name} : goal.{name}\n{words} = {ANSWER}\n" for words, name in goals]
+        os.makedirs(at, exist_ok=True)
+        write(f"{at}/Answers.antt", "".join([text, *answers]))
+
+    def has_own_calls(self, edit):
+        """Whether the prover tries more at the goals of a function than at those of others, as the
+        attribute of its tactic says."""
+        path = re.search(r"(?m)^file: (.*)$", edit.text)[1]
+        lines = read(f"{self.place}/{path}").split("\n")
+        item = item_of(lines, edit.function)
+        return "tactic(" in "\n".join(lines[item.first : item.head] if item else lines)
+
+    def note_goals(self, edits, lines):
+        """Writes into the files of wrong bodies which goals they leave open."""
+        goals = goals_in(lines)
+        for edit in edits:
+            found = goals.get("/".join(edit.tried_as.split("::")[1:]), [])
+            found = [] if self.has_own_calls(edit) else found
+            head = f"function: {edit.function}\n"
+            noted = head + "".join(f"goal: {it}\n" for it in found)
+            text = GOAL.sub("", edit.text).replace(head, noted)
+            write(f"{self.place}/{FOLDER}/{edit.name}", text)
 
     def check(self, room, functions):
         """Checks functions of a copy of the crate, and what they call, from nothing. Returns its
@@ -420,6 +485,8 @@ class Tries:
         functions, others = functions_in(lines, self.crate.name)
         wrong = {it.tried_as for it in edits}
         hidden = []
+        if self.notes_goals:
+            self.note_goals(edits, lines)
         for edit in edits:
             why = shortcoming(functions.get(edit.tried_as))
             if why and reached(functions, edit.tried_as) & wrong - {edit.tried_as}:
@@ -588,7 +655,7 @@ def line_of(name, result, is_control):
     return f"{name}: {said}, in {checks}, {result.seconds:.0f} seconds of one processor"
 
 
-def run(names, is_gate_passed=False, is_control=False):
+def run(names, is_gate_passed=False, is_control=False, notes_goals=False):
     """Tries the wrong bodies of these crates. Returns whether all are refused, lines that report
     it, and the seconds of each crate."""
     os.makedirs(LOGS, exist_ok=True)
@@ -596,7 +663,7 @@ def run(names, is_gate_passed=False, is_control=False):
     names = [it for it in all_crates() if it in names and it not in without]
     kept, crates = Kept(rt), crates_at(rt, TOP)
     sums = {it: sum_of(rt, crates[it]) for it in names}
-    left = [it for it in names if is_control or not kept.has(it, sums[it])]
+    left = [it for it in names if is_control or notes_goals or not kept.has(it, sums[it])]
     report = [f"    {it}: all refused earlier" for it in names if it not in left]
     report += [f"    {len(without)} crates have none: {' '.join(without)}"] if without else []
     left.sort(key=kept.seconds, reverse=True)
@@ -610,7 +677,7 @@ def run(names, is_gate_passed=False, is_control=False):
             return False, [*report, "    they are not proved as they stand"], seconds
         # with which each check ends where this run does
         guard = rt.rtlib.guarded()
-        tries = {it: Tries(rt, built[it], files_of(it), guard) for it in left}
+        tries = {it: Tries(rt, built[it], files_of(it), guard, notes_goals) for it in left}
         call = Tries.control if is_control else Tries.try_all
         running = {pool.submit(call, it): name for name, it in tries.items()}
         stack.callback(end_checks, pool)
@@ -621,7 +688,7 @@ def run(names, is_gate_passed=False, is_control=False):
             print("\n".join(f"wrong bodies: {it}" for it in lines), flush=True)
             report += [f"    {it}" for it in lines]
             causes += result.causes
-            is_kept = not is_control and not result.causes
+            is_kept = not is_control and not notes_goals and not result.causes
             if is_kept and sum_of(rt, crates[name]) == sums[name]:
                 kept.keep(name, sums[name], result)
     return not causes, report, seconds
@@ -659,13 +726,13 @@ def main(words):
         passed, report = self_test()
         print("\n".join(report))
         return 0 if passed else 1
-    is_control = words[:1] == ["--control"]
-    names = words[1:] if is_control else words
+    is_control, notes_goals = words[:1] == ["--control"], words[:1] == ["--goals"]
+    names = words[1:] if is_control or notes_goals else words
     if any(it not in all_crates() for it in names):
         print(__doc__.strip(), file=sys.stderr)
         return 2
     started = time.monotonic()
-    passed, _, seconds = run(names or [*all_crates()], is_control=is_control)
+    passed, _, seconds = run(names or [*all_crates()], False, is_control, notes_goals)
     for name, spent in sorted(seconds.items(), key=lambda it: -it[1]):
         print(f"| `{name}` | {spent / 60:.1f} |")
     minutes = (time.monotonic() - started) / 60
