@@ -1,10 +1,15 @@
 -- What a list is behind its first items, after a change there.
-use Rattle.std.proofs.Common.{◌≡◌, ℕ, suc, ◌+◌, ◌-◌, ◌<◌, ◌≤◌, List, ◌∷◌, ◌++◌, length, take, drop, get_or, refl, append_assoc, arith}
+use Rattle.std.proofs.Common.{◌≡◌, ℕ, suc, ◌+◌, ◌-◌, ◌<◌, ◌≤◌, List, ◌∷◌, ◌++◌, length, take, drop, get_or, refl, sym, ap, ◌∙◌, append_assoc, arith}
 use Rattle.std.specs.Prelude.{slice_set}
+use Rattle.devector.specs.Items.{Items, items_in}
 use Rattle.std.specs.List.{insert, remove, copy_within}
 use Rattle.std.proofs.lemmas.List.{length-take, length-take-le, length-drop, drop-append-le, drop-take, drop-drop, drop-set-add, drop_at, drop_more, set_at}
 
 module _ {X : Type 0} where
+  -- how many items a vector shows that does not use its first `n`
+  pub count_seen : (xs : List X) (n : ℕ) {room : ℕ} {d : Items X} → items_in (drop n xs) room ≡ d → length xs - n ≡ length d.items
+  count_seen xs n e = sym (length-drop n xs) ∙ ap (λ d. length d.items) e
+
   pub insert_behind : (xs : List X) (n i : ℕ) (x : X) → n ≤ length xs → drop n (insert xs (n + i) x) ≡ insert (drop n xs) i x
   insert_behind xs n i x within =
       let e = drop-append-le n (take (n + i) xs) (x ∷ drop (n + i) xs) (omega (arith, length-take (n + i) xs, within)) in
