@@ -1,5 +1,5 @@
 //! The journals of stores, and the positions of their steps.
-ghost use Rattle.std.specs.Prelude.{IfOk};
+ghost use Rattle.std.specs.Prelude.{◌≡◌, ◌++◌, ◌∷◌, [], IfOk, OnOk};
 ghost use Rattle.store_audit.specs.Stores.{AreParts};
 
 use crate::StoreJournal;
@@ -14,22 +14,52 @@ pub(crate) struct Parts {
     pub(crate) positions: Vec<Vec<u64>>,
 }
 
+// The journal of a store, and the positions of the rows of its steps.
+fn parts_of(store: StoreJournal) -> (Journaled, Vec<u64>)
+    ensures journal { result.0 ≡ store.journal }
+    ensures positions { result.1 ≡ store.positions }
+{
+    (store.journal, store.positions)
+}
+
+// Adds an item at the end of a list.
+fn push<T: Drop>(list: &mut Vec<T>, item: T) -> Result<(), Memory>
+    ensures { OnOk result (list.new.items ≡ list.old.items ++ item ∷ []) }
+{
+    match list.push(item) {
+        Ok(()) => Ok(()),
+        Err(_) => Err(Memory),
+    }
+}
+
+// Adds a journal and its positions. `Memory` can leave it there without its positions.
+fn add(parts: &mut Parts, journal: Journaled, positions: Vec<u64>) -> Result<(), Memory>
+    ensures journals { OnOk result
+        (parts.new.journals.items ≡ parts.old.journals.items ++ journal ∷ []) }
+    ensures positions { OnOk result
+        (parts.new.positions.items ≡ parts.old.positions.items ++ positions ∷ []) }
+{
+    if push(&mut parts.journals, journal).is_err() {
+        drop(positions);
+        return Err(Memory);
+    }
+    push(&mut parts.positions, positions)
+}
+
 // Takes stores apart.
 pub(crate) fn split(alloc: Global, stores: Vec<StoreJournal>) -> Result<Parts, Memory>
     ensures { IfOk result (λ parts. AreParts stores.items parts) }
 {
-    let mut journals = Vec::new(alloc);
-    let mut positions = Vec::new(alloc);
+    let mut parts = Parts {
+        journals: Vec::new(alloc),
+        positions: Vec::new(alloc),
+    };
     for store in stores {
-        if journals.push(store.journal).is_err() {
-            return Err(Memory);
-        }
-        if positions.push(store.positions).is_err() {
+        let (journal, positions) = parts_of(store);
+        if add(&mut parts, journal, positions).is_err() {
+            drop(parts);
             return Err(Memory);
         }
     }
-    Ok(Parts {
-        journals,
-        positions,
-    })
+    Ok(parts)
 }
