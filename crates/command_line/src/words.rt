@@ -392,19 +392,33 @@ fn push_session_options<'a>(
     let idle = "How long a client may be silent; 0 for ever";
     let sessions = "How many clients each site answers at once, 1 to 64";
     let verbose = "Logs clients that log in, and those of them that leave";
-    args.push(option(alloc, "greeting", "TEXT", "The line that greets a client"))?;
-    args.push(number(alloc, "idle", "SECONDS", idle, defaults.idle).value_parser(value_parser!(
-        u64
-    )))?;
-    args.push(number(alloc, "sessions", "N", sessions, defaults.places).value_parser(value_parser!(
-        u16
-    ).range(1..=64)))?;
-    args.push(flag(alloc, "verbose", verbose))?;
-    args.push(
+    push(
+        args,
+        option(alloc, "greeting", "TEXT", "The line that greets a client"),
+    )?;
+    push(
+        args,
+        number(alloc, "idle", "SECONDS", idle, defaults.idle).value_parser(value_parser!(u64)),
+    )?;
+    push(
+        args,
+        number(alloc, "sessions", "N", sessions, defaults.places).value_parser(value_parser!(
+            u16
+        ).range(1..=64)),
+    )?;
+    push(args, flag(alloc, "verbose", verbose))?;
+    push(
+        args,
         number(alloc, "patience", "SECONDS", "", defaults.patience)
             .value_parser(value_parser!(u64).range(1..=86_400))
             .hide(true),
     )?;
+    Ok(())
+}
+
+// Adds an argument.
+fn push<'a>(args: &mut Vec<Arg<'a>>, arg: Arg<'a>) -> Result<(), AllocError> {
+    args.push(arg)?;
     Ok(())
 }
 
@@ -416,8 +430,8 @@ fn push_store_options<'a>(
     help: &'a str,
 ) -> Result<(), AllocError> {
     let keep = "Rows that a store no longer needs are moved to a second table, for audits";
-    args.push(option(alloc, "store", value, help))?;
-    args.push(flag(alloc, "keep", keep))?;
+    push(args, option(alloc, "store", value, help))?;
+    push(args, flag(alloc, "keep", keep))?;
     Ok(())
 }
 
@@ -427,8 +441,8 @@ fn push_serve_options<'a>(alloc: Global, args: &mut Vec<Arg<'a>>) -> Result<(), 
     let secret = "The file whose first line is the secret, in place of SECRET";
     let store =
         "The folder of the stores: that of site K is the file site-K.db, which is made if it is missing";
-    args.push(number(alloc, "bind", "ADDRESS", bind, "127.0.0.1"))?;
-    args.push(option(alloc, "secret-file", "FILE", secret))?;
+    push(args, number(alloc, "bind", "ADDRESS", bind, "127.0.0.1"))?;
+    push(args, option(alloc, "secret-file", "FILE", secret))?;
     push_store_options(alloc, args, "FOLDER", store)
 }
 
@@ -439,25 +453,40 @@ fn push_site_options<'a>(alloc: Global, args: &mut Vec<Arg<'a>>) -> Result<(), A
     let store = "The file of the store, which is made if it is missing";
     let volatile = "Nothing is stored; the number of the site must never be used again";
     let peer = "Where another site accepts links; may be given 64 times";
-    args.push(option(alloc, "secret-file", "FILE", secret).required(true))?;
-    args.push(option(alloc, "link-secret-file", "FILE", shared).required(true))?;
+    push(
+        args,
+        option(alloc, "secret-file", "FILE", secret).required(true),
+    )?;
+    push(
+        args,
+        option(alloc, "link-secret-file", "FILE", shared).required(true),
+    )?;
     push_store_options(alloc, args, "FILE", store)?;
-    args.push(flag(alloc, "volatile", volatile))?;
-    args.push(number(
-        alloc,
-        "clients",
-        "ADDRESS:PORT",
-        "Where clients connect",
-        "127.0.0.1:5038",
-    ))?;
-    args.push(number(
-        alloc,
-        "links",
-        "ADDRESS:PORT",
-        "Where other sites connect",
-        "127.0.0.1:7038",
-    ))?;
-    args.push(option(alloc, "peer", "ADDRESS:PORT", peer).action(ArgAction::Append))?;
+    push(args, flag(alloc, "volatile", volatile))?;
+    push(
+        args,
+        number(
+            alloc,
+            "clients",
+            "ADDRESS:PORT",
+            "Where clients connect",
+            "127.0.0.1:5038",
+        ),
+    )?;
+    push(
+        args,
+        number(
+            alloc,
+            "links",
+            "ADDRESS:PORT",
+            "Where other sites connect",
+            "127.0.0.1:7038",
+        ),
+    )?;
+    push(
+        args,
+        option(alloc, "peer", "ADDRESS:PORT", peer).action(ArgAction::Append),
+    )?;
     Ok(())
 }
 
@@ -470,13 +499,22 @@ fn serve_args<'a>(
     let mut args = Vec::new(alloc);
     push_session_options(alloc, &mut args, defaults.of_serve())?;
     push_serve_options(alloc, &mut args)?;
-    args.push(sites(alloc, "SITES", "How many sites there are, 1 to 8", 1, 8))?;
-    args.push(port(alloc))?;
-    args.push(login_word(alloc, "USER", "The user who may log in"))?;
+    push(
+        &mut args,
+        sites(alloc, "SITES", "How many sites there are, 1 to 8", 1, 8),
+    )?;
+    push(&mut args, port(alloc))?;
+    push(
+        &mut args,
+        login_word(alloc, "USER", "The user who may log in"),
+    )?;
     if !is_in_file {
-        args.push(login_word(alloc, "SECRET", "The secret of the user"))?;
+        push(
+            &mut args,
+            login_word(alloc, "SECRET", "The secret of the user"),
+        )?;
     }
-    args.push(queues(alloc))?;
+    push(&mut args, queues(alloc))?;
     Ok(args)
 }
 
@@ -485,9 +523,15 @@ fn site_args<'a>(alloc: Global, defaults: &'a Defaults) -> Result<Vec<Arg<'a>>, 
     let mut args = Vec::new(alloc);
     push_session_options(alloc, &mut args, defaults.of_site())?;
     push_site_options(alloc, &mut args)?;
-    args.push(sites(alloc, "NUMBER", "The number of the site, 0 to 63", 0, 63))?;
-    args.push(login_word(alloc, "USER", "The user who may log in"))?;
-    args.push(queues(alloc))?;
+    push(
+        &mut args,
+        sites(alloc, "NUMBER", "The number of the site, 0 to 63", 0, 63),
+    )?;
+    push(
+        &mut args,
+        login_word(alloc, "USER", "The user who may log in"),
+    )?;
+    push(&mut args, queues(alloc))?;
     Ok(args)
 }
 
@@ -524,18 +568,25 @@ fn site<'a>(alloc: Global, defaults: &'a Defaults) -> Result<Command<'a>, AllocE
     }
 }
 
+// A list with a command at its end, if there is memory for both.
+fn with<'a>(
+    mut list: Vec<Command<'a>>,
+    command: Result<Command<'a>, AllocError>,
+) -> Result<Vec<Command<'a>>, AllocError> {
+    list.push(command?)?;
+    Ok(list)
+}
+
 fn subcommands<'a>(
     alloc: Global,
     defaults: &'a Defaults,
     is_in_file: bool,
 ) -> Result<Vec<Command<'a>>, AllocError> {
-    let mut subcommands = Vec::new(alloc);
-    subcommands.push(script(alloc)?)?;
-    subcommands.push(serve(alloc, defaults, is_in_file)?)?;
-    subcommands.push(site(alloc, defaults)?)?;
-    subcommands.push(audit(alloc)?)?;
-    subcommands.push(steps(alloc)?)?;
-    Ok(subcommands)
+    let list = with(Vec::new(alloc), script(alloc))?;
+    let list = with(list, serve(alloc, defaults, is_in_file))?;
+    let list = with(list, site(alloc, defaults))?;
+    let list = with(list, audit(alloc))?;
+    with(list, steps(alloc))
 }
 
 fn command<'a>(
