@@ -15,7 +15,7 @@ from watch import Watch
 
 MEMORY_OF_A_PROOF = 4_500_000_000
 PARTS = ("proof", "tests", "wrong bodies", "runs")
-LEAST_SHOWN = 6  # minutes: what takes less shares a line
+LEAST_SHOWN = 8  # minutes: what takes less shares a line
 
 
 def lines_of(table, all_seconds):
