@@ -209,9 +209,10 @@ fn audit_sorted<W: Sink>(
 /// Where no list of events explains all stores, the events are stuck: they give each site its first steps, and no further event gives
 /// any site its next. These are written in the same way, and the end names the first step of the least site that has one left.
 ///
-/// Errors, in order: `Doubled`, if two stores are of one site, the least that has two; `Missing`, if a lesser site than one of these has none; `OtherQueues`, if
-/// a store is of another list of queues than that of site 0; `Write`, if the writer fails or takes no bytes; `Memory`, at any time from then
-/// on. After the first three nothing was written, after `Write` a prefix of the text, and after `Memory` nothing or a prefix of it.
+/// Errors, in order: `Doubled`, if two stores are of one site, the least that has two; `Missing`, if a lesser site than one of these has
+/// none; `OtherQueues`, if a store is of another list of queues than that of site 0; `Write`, if the writer fails or takes no bytes;
+/// `Memory`, at any time from then on. After the first three nothing was written, after `Write` a prefix of the text, and after `Memory`
+/// nothing or a prefix of it.
 pub fn audit_stores<W: Sink>(
     alloc: Global,
     out: &mut W,

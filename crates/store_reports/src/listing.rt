@@ -30,8 +30,9 @@ fn listing_fault(fault: ListingFault) -> ReportFault
 /// Writes the rows of the store at a path in words, as `write_steps` of `store_listing` does. Neither the file nor its log is changed.
 ///
 /// Errors, in order: `File` with the index 0 and `Unreadable`, if the file or its log can't be read; with `Copy` and the fault of
-/// `rows_of_bytes`, or `Gap` where a position would pass 2^64 - 1; these write nothing. Then, at the first row with one, `File` with `Listing` and the fault of `write_steps`; `Write`.
-/// `Memory` may stand in place of each, and then nothing was written, or the text of the rows before one.
+/// `rows_of_bytes`, or `Gap` where a position would pass 2^64 - 1; these write nothing. Then, at the first row with one, `File` with
+/// `Listing` and the fault of `write_steps`; `Write`. `Memory` may stand in place of each, and then nothing was written, or the text of the
+/// rows before one.
 pub fn list_steps<R: Files + AllocGlobal, W: Sink>(
     rt: &R,
     out: &mut W,

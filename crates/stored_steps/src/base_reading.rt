@@ -252,10 +252,10 @@ fn read_base(
 /// changes nothing where a replica was stored.
 ///
 /// Errors, in order, each but the last only for its cause: `NoBase`, if the kind is not that of a base; `BadVersion`, if the first byte is
-/// not `BASE_VERSION`; `WrongSite`, if the base is of another site; `WrongList`, if it is of another list of queues; `Truncated`, if the bytes end before the frames begin;
-/// `Decode`, if the state or the buffer is no frame, with the fault of `decode`; `WrongFrame`, if one is a frame of another site or
-/// number; `Trailing`, if bytes follow the buffer; `Parts`, if the parts are those of no replica, with the fault of `Replica::restored`;
-/// `Memory`, which may stand in place of each from `WrongList` on.
+/// not `BASE_VERSION`; `WrongSite`, if the base is of another site; `WrongList`, if it is of another list of queues; `Truncated`, if the
+/// bytes end before the frames begin; of the state, then of the buffer, `Decode`, if it is no frame, with the fault of `decode`, and
+/// `WrongFrame`, if it is a frame of another site or number; `Trailing`, if bytes follow the buffer; `Parts`, if the parts are those of no
+/// replica, with the fault of `Replica::restored`; `Memory`, which may stand in place of each from `WrongList` on.
 pub fn base_of_row(
     alloc: Global,
     site: SiteId,
@@ -407,8 +407,9 @@ fn read_heading(alloc: Global, row: &StoredRow) -> Result<(SiteId, QueueList), B
 /// The site and the list of queues that the base in a row names.
 ///
 /// Errors, in order, each but the last only for its cause: `NoBase`, if the kind is not that of a base; `BadVersion`, if the first byte is
-/// not `BASE_VERSION`; `Truncated`, if the bytes end before the site; `WrongSite`, if the second byte is not the number of a site; `Truncated`, if the bytes end before the number of
-/// queues; `WrongList`, if no list of queues follows; `Memory`, which may stand in place of `WrongList`.
+/// not `BASE_VERSION`; `Truncated`, if the bytes end before the site; `WrongSite`, if the second byte is not the number of a site;
+/// `Truncated`, if the bytes end before the number of queues; `WrongList`, if no list of queues follows; `Memory`, which may stand in place
+/// of `WrongList`.
 pub fn base_heading(alloc: Global, row: &StoredRow) -> Result<(SiteId, QueueList), BaseFault>
     ensures kind { OnOk result (row.now.kind ≡ kind_number Base) }
     ensures read { IfOk result (λ it. (rest : List ℕ)
