@@ -4,7 +4,7 @@ use Rattle.ami_text.specs.declared.line_kind.LineKind.{LineKind}
 use Rattle.ami_text.specs.declared.line_kind.LineKind.TheVariants.{Empty, Full, TooLong}
 use Rattle.ami_text.specs.Lines.{content}
 
--- a content is of this kind: empty, within the limit, or longer
+-- a line's content is of this kind: empty, of at most 1,024 bytes, or longer
 abbrev pub HasKind : List ℕ → LineKind → Type 0
 HasKind line Empty = length (content line) ≡ 0
 HasKind line Full = (0 < length (content line)) × (length (content line) ≤ 1024)

@@ -9,11 +9,11 @@ use Rattle.ami_text.specs.Lines.{content}
 abbrev pub NameAndValue : Type 0
 NameAndValue = List ℕ × List ℕ
 
--- a space or a tab
+-- whether a byte is a space or a tab
 abbrev pub is_blank : ℕ → Bool
 is_blank b = b == 32 || b == 9
 
--- a colon
+-- whether a byte is a colon
 abbrev pub is_colon : ℕ → Bool
 is_colon b = b == 58
 
@@ -30,7 +30,8 @@ trimmed_end bytes = reverse (trimmed_front (reverse bytes))
 abbrev pub trim_of : List ℕ → List ℕ
 trim_of bytes = trimmed_end (trimmed_front bytes)
 
--- the field of a content with a colon: the text before and after the first colon, each trimmed
+-- the field of a content: the text before and after the first colon, each trimmed; `None` without a
+-- colon
 abbrev pub field_of : List ℕ → Option (List ℕ × List ℕ)
 field_of text =
     if list_any is_colon text
@@ -41,22 +42,22 @@ field_of text =
 abbrev pub fields_of : List (List ℕ) → List (List ℕ × List ℕ)
 fields_of lines = filter_map (λ line. field_of (content line)) lines
 
--- two names are the same, compared without ASCII case
+-- whether two names are the same, compared without ASCII case
 abbrev pub same_name : List ℕ → List ℕ → Bool
 same_name a b = bytes_eq (map to_ascii_lowercase a) (map to_ascii_lowercase b)
 
--- the value of the first field of this name
+-- the value of the first field of this name, compared without ASCII case
 abbrev pub first_value : List ℕ → List (List ℕ × List ℕ) → Option (List ℕ)
 first_value name [] = None
 first_value name (field ∷ fields) =
     if same_name field.0 name then Some field.1 else first_value name fields
 
--- an empty text counts as absent
+-- a text, or `None` if it is empty
 abbrev pub unless_empty : Option (List ℕ) → Option (List ℕ)
 unless_empty None = None
 unless_empty (Some []) = None
 unless_empty (Some (b ∷ bs)) = Some (b ∷ bs)
 
--- the value that a message has for a name
+-- the value that a message has for a name; `None` if its first field of the name is empty, or it has none
 abbrev pub value_of : List ℕ → List (List ℕ × List ℕ) → Option (List ℕ)
 value_of name fields = unless_empty (first_value name fields)

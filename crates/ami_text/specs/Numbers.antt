@@ -12,7 +12,7 @@ read_on n (d ∷ ds) = read_on (n * 10 + (d - 48)) ds
 abbrev pub number_of : List ℕ → ℕ
 number_of digits = read_on 0 digits
 
--- the number that 1 to `most` decimal digits spell
+-- the number that 1 to `most` decimal digits spell; `None` for other bytes or another length
 abbrev pub number_in : ℕ → List ℕ → Option ℕ
 number_in most [] = None
 number_in most (d ∷ ds) =

@@ -3,7 +3,7 @@ use Rattle.std.specs.Prelude.{Bool, ℕ}
 use Rattle.ami_text.specs.declared.std_source.StdSource.{StdSource}
 use Rattle.ami_text.specs.declared.std_sink.StdSink.{StdSink}
 
--- the reader
+-- the reader of a source
 abbrev pub source_reader : {R : Type 0} → StdSource R → R
 source_reader s = s.reader
 
@@ -11,11 +11,11 @@ source_reader s = s.reader
 abbrev pub source_ended : {R : Type 0} → StdSource R → Bool
 source_ended s = s.ended
 
--- whether it has failed
+-- whether the source has failed
 abbrev pub source_failed : {R : Type 0} → StdSource R → Bool
 source_failed s = s.failed
 
--- the writer
+-- the writer of a sink
 abbrev pub sink_writer : {W : Type 0} → StdSink W → W
 sink_writer s = s.writer
 

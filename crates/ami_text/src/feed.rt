@@ -43,7 +43,7 @@ impl Model for Feed {
 }
 
 impl Feed {
-    /// An empty feed.
+    /// An empty feed. Takes no memory.
     pub fn new(alloc: Global) -> Self
         ensures { result ≡ record { held = []; fault = None } }
     {
@@ -71,14 +71,15 @@ impl Feed {
         self.held.append(piece)
     }
 
-    /// The next message of the stream; `None` if the held bytes are no whole message and show no
-    /// fault.
+    /// The next message of the stream, taken from the front of the held bytes. `None` if these are
+    /// no whole message and show no fault; empty lines in front of them are dropped.
     ///
-    /// Errors, in order:
+    /// Errors: the first of 1 and 2 that the stream shows, or 3 where a message is whole:
     /// 1. `LineTooLong`: the next line's content has more than 1,024 bytes, seen as soon as the
-    ///    held bytes show it. The feed has failed: each later call returns the same fault.
+    ///    held bytes show it. The feed has failed: each later call returns the same fault. It holds
+    ///    no bytes then, though no contract says this.
     /// 2. `TooManyFields`: a 129th line that isn't empty has ended before the message did. The feed
-    ///    has failed: each later call returns the same fault.
+    ///    has failed, as after 1.
     /// 3. `Memory`: memory was refused, and the feed is as before.
     pub fn next_message(&mut self) -> Result<Option<Message>, FeedFault>
         ensures message { IfOk result (λ next. IfSome next (λ m.

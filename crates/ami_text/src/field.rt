@@ -24,7 +24,8 @@ impl Model for Field {
 }
 
 impl Field {
-    /// The field with copies of the two texts, in one block of memory.
+    /// The field with copies of the two texts, in one block of memory. Fails only when out
+    /// of memory.
     pub fn new(alloc: Global, name: &[u8], value: &[u8]) -> Result<Self, Memory>
         ensures { IfOk result (λ field. field ≡ (name.now, value.now)) }
     {

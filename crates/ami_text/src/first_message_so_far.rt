@@ -15,7 +15,7 @@ pub enum LineSoFar {
 }
 
 impl LineSoFar {
-    // With one byte more, which isn't LF.
+    // The state after one more byte, which isn't LF.
     fn after(self, byte: u8) -> LineSoFar
         ensures { result ≡ line_after self byte }
     {
@@ -73,7 +73,7 @@ impl FirstMessageSoFar {
         }
     }
 
-    // With one byte more, which isn't LF.
+    // The state after one more byte, which isn't LF.
     fn after_content(self, byte: u8) -> FirstMessageSoFar
         ensures { result ≡ after_content self byte }
     {

@@ -1,9 +1,9 @@
 //! The text of a manager session, as it is read and written, and the devices that carry it.
 //!
-//! Bytes come in pieces of any size. A [`Feed`] cuts them into lines and gives the messages,
-//! whatever the pieces were. A [`Source`] gives bytes and a [`Sink`] takes them; both are made of
-//! std's readers and writers, or of memory. [`write_all`] writes bytes to the last. [`push_field`] and
-//! its like write the lines of a message.
+//! Bytes come in pieces of any size. A [`Feed`] cuts them into lines and gives the messages, whatever
+//! the pieces were. A [`Source`] gives bytes and a [`Sink`] takes them; both are made of std's readers
+//! and writers, or of memory. [`write_all`] writes all of some bytes to a sink. [`push_field`] and its
+//! like write the lines of a message.
 //!
 //! A message as lines `Name: value` with an empty line at its end is Asterisk's (its Manager action
 //! documents). The rules for lines, fields and limits in `specs/` are this project's own.

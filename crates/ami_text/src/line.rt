@@ -64,8 +64,8 @@ pub fn trimmed(bytes: &[u8]) -> &[u8]
     trimmed_end(trimmed_front(bytes))
 }
 
-/// The name and the value of a line's content: the text before and after its first colon. `None`
-/// without a colon.
+/// The name and the value of a line's content: the text before and after its first colon, each
+/// without spaces and tabs at its ends. `None` without a colon.
 pub fn name_and_value(content: &[u8]) -> Option<(&[u8], &[u8])>
     ensures { option_map (λ (p : Bor (List ℕ) × Bor (List ℕ)). (p.0.now, p.1.now)) result
         ≡ field_of content.now }

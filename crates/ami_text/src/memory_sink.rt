@@ -70,9 +70,10 @@ impl Sink for MemorySink {
 
     ghost failed = { λ s. s.failed };
 
-    /// Keeps the first bytes, up to the most of one write.
+    /// Keeps the first bytes, up to the most of one write, and returns how many. If it keeps none of
+    /// bytes that aren't empty, it has failed.
     ///
-    /// `Failed`: no more writes were to succeed, or memory was refused.
+    /// `Failed`: no more writes were to succeed, or memory was refused. It has kept none of the bytes.
     fn write(&mut self, bytes: &[u8]) -> Result<usize, Failed>
         requires { self.old.failed ≡ false }
         ensures count { IfOk result (λ n. n ≤ length bytes.now) }

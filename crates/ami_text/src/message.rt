@@ -27,7 +27,7 @@ impl Model for Message {
     ghost view = { λ m. m.fields.items };
 }
 
-// The value of the first field of this name.
+// The value of the first field of this name, compared without ASCII case; `None` if there is none.
 fn first_value<'a>(fields: &'a [Field], name: &[u8]) -> Option<&'a [u8]>
     ensures { option_copied result ≡ first_value name.now fields.now }
 {
@@ -39,7 +39,7 @@ fn first_value<'a>(fields: &'a [Field], name: &[u8]) -> Option<&'a [u8]>
     None
 }
 
-// Adds the field of a line; a line without a colon has none.
+// Adds the field of a line; a line without a colon has none. Fails only when out of memory.
 fn push_line(alloc: Global, fields: &mut Vec<Field>, line: &[u8]) -> Result<(), Memory>
     ensures { OnOk result (fields.new.items
         ≡ fields.old.items ++ fields_of (line.now ∷ [])) }
@@ -60,7 +60,7 @@ impl Message {
         first_value(&self.fields, name).filter(|value| !value.is_empty())
     }
 
-    // The message of these lines, each ended by LF.
+    // The message of these lines, each ended by LF. Fails only when out of memory.
     pub(crate) fn parse(alloc: Global, bytes: &[u8]) -> Result<Self, Memory>
         ensures { IfOk result (λ m. (lines : List (List ℕ)) →
             All HasNoLf lines → bytes.now ≡ lines_text lines → m ≡ fields_of lines) }

@@ -12,7 +12,7 @@ fn are_digits(digits: &[u8]) -> bool
     digits.iter().all(|b| b.is_ascii_digit())
 }
 
-// The number that the digits of a text stand for, where it is below 2^64.
+// The number that the digits of a text stand for; `None` exactly where it isn't below 2^64.
 fn parsed(text: &str) -> Option<u64>
     requires digits { list_all is_ascii_digit text.now ≡ true }
     requires some { 0 < length text.now }
@@ -21,7 +21,7 @@ fn parsed(text: &str) -> Option<u64>
     text.parse::<u64>().ok()
 }
 
-// The number that decimal digits stand for, where it is below 2^64.
+// The number that decimal digits stand for; `None` exactly where it isn't below 2^64.
 fn number_of(digits: &[u8]) -> Option<u64>
     requires digits { list_all is_ascii_digit digits.now ≡ true }
     requires some { 0 < length digits.now }

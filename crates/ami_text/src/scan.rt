@@ -13,7 +13,8 @@ use bstr::ByteSlice;
 /// The most lines of a message, empty ones aside.
 pub const LINES_LIMIT: usize = 128;
 
-/// Scans the held bytes from where the last scan stopped.
+/// Scans the held bytes from where the last scan stopped. Returns the first thing in
+/// them: a message or a fault, or `Rest` if there is neither.
 pub fn scan(held: &[u8], from: Progress) -> Found
     requires { IsProgress held.now from }
     ensures { IsFound held.now result }

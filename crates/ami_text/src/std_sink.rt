@@ -39,7 +39,7 @@ impl<W> StdSink<W> {
     /// The sink with at most `waits` tries of a write that would block or times out; 0 counts as 1,
     /// and more than 1,000 as 1,000. So over a writer with a time limit, a write is given up after
     /// `waits` times that limit in which no byte was taken, and it reports bytes that were taken
-    /// within one limit.
+    /// within one limit. No contract says how long a write waits.
     pub fn with_waits(self, waits: u32) -> Self
         ensures writer { sink_writer result ≡ sink_writer self }
         ensures waits { sink_waits result ≡ waits }
@@ -53,7 +53,7 @@ impl<W> StdSink<W> {
         }
     }
 
-    /// The writer.
+    /// The writer. If its last flush failed, this isn't reported.
     pub fn into_inner(self) -> W
         ensures { result ≡ sink_writer self }
     {
@@ -61,7 +61,9 @@ impl<W> StdSink<W> {
     }
 }
 
-// Writes once, and retries a write that is interrupted, or that has waited and may wait again.
+// Writes once, and returns how many bytes the writer took. Retries a write that is interrupted, or
+// that has waited and may wait again. `Failed` after any other error, or after 1,000 tries; no
+// contract says which.
 fn write_retrying<W: Write>(writer: &mut W, waits: u32, bytes: &[u8]) -> Result<usize, Failed>
     ensures count { IfOk result (λ n. n ≤ length bytes.now) }
     ensures writer { WriteAppends (W.contents writer.old) (W.contents writer.new) result bytes.now }
@@ -80,7 +82,8 @@ fn write_retrying<W: Write>(writer: &mut W, waits: u32, bytes: &[u8]) -> Result<
     Err(Failed)
 }
 
-// Flushes, and retries a flush that is interrupted.
+// Flushes, and retries a flush that is interrupted. `Failed` after any other error, or after 1,000
+// tries; no contract says which.
 fn flush_retrying<W: Write>(writer: &mut W) -> Result<(), Failed>
     ensures { Keeps (W.contents writer.old) (W.contents writer.new) }
 {
@@ -103,11 +106,12 @@ impl<W: Write> Sink for StdSink<W> {
     ghost failed = { λ s. sink_failed s };
 
     /// Writes once to the writer, and flushes it. An interrupted write or flush is retried, a
-    /// thousand tries in all; so is a write that would block or times out, as often as it may wait.
+    /// thousand tries each; so is a write that would block or times out, as often as it may wait.
     ///
     /// `Failed`: the writer returned `WouldBlock` or `TimedOut` as often as a write may wait, another
-    /// error once, or was interrupted a thousand times; or the flush of the write before, whose bytes
-    /// the writer had taken, returned an error, or was interrupted a thousand times.
+    /// error once, or these two and `Interrupted` a thousand times together; or the flush of the
+    /// write before, whose bytes the writer had taken, returned an error, or was interrupted a
+    /// thousand times.
     fn write(&mut self, bytes: &[u8]) -> Result<usize, Failed>
         requires { sink_failed self.old ≡ false }
         ensures count { IfOk result (λ n. n ≤ length bytes.now) }

@@ -40,7 +40,8 @@ impl<R> StdSource<R> {
     }
 }
 
-// Reads once, and retries a read that is interrupted.
+// Reads once, and returns how many bytes it read. Retries a read that is interrupted. `Failed`
+// after any other error, or after 1,000 tries; no contract says which.
 fn read_retrying<R: Read>(reader: &mut R, piece: &mut [u8]) -> Result<usize, Failed>
     ensures count { IfOk result (λ n. n ≤ length piece.new) }
     ensures reader { ReadConsumes (R.remaining reader.old)

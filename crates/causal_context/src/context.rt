@@ -138,7 +138,7 @@ impl Context {
     }
 
     /// Makes room for the dots of another context, which `absorb` then adds. Leaves the dots as they are. Errors, in order: 1
-    /// `RunsFull`, exactly where the union has more than 65,536 runs; 2 `Memory`.
+    /// `RunsFull`, exactly where the union has more than 65,536 runs; 2 `Memory`, never if `prepared` is true.
     pub fn prepare(&mut self, other: &Context) -> Result<(), ContextFault>
         ensures ready { OnOk result (IsPrepared self.new other.now.dots) }
         ensures full { (result ≡ Err ContextFault.RunsFull)
@@ -156,7 +156,8 @@ impl Context {
         Ok(())
     }
 
-    /// Whether the dots of another context can be absorbed: the union has at most 65,536 runs, and there is room.
+    /// Whether the dots of another context can be absorbed: the union has at most 65,536 runs, and there is room for the runs of
+    /// both.
     pub fn prepared(&self, other: &Context) -> bool
         ensures { IsTrue result ↔ IsPrepared self.now other.now.dots }
     {
@@ -174,7 +175,7 @@ impl Context {
     }
 
     /// Adds the dots of another context. A fault leaves the dots as they are. Errors, in order: 1 `RunsFull`, exactly where the
-    /// union has more than 65,536 runs; 2 `Memory`.
+    /// union has more than 65,536 runs; 2 `Memory`, never if `prepared` is true.
     pub fn join(&mut self, other: &Context) -> Result<(), ContextFault>
         ensures ok { OnOk result (self.new.dots ≡ set.union self.old.dots other.now.dots) }
         ensures full { (result ≡ Err ContextFault.RunsFull)
@@ -216,7 +217,7 @@ impl Context {
         runs + 1 - u64::from(next) - u64::from(before)
     }
 
-    // Adds the dots of a run. No fault changes the dots.
+    // Adds the dots of a run. A fault leaves the dots as they are. The errors are those of `insert_run`.
     fn unite(&mut self, run: Run) -> Result<(), ContextFault>
         ensures ok { OnOk result
             (self.new.dots ≡ set.union self.old.dots (set_of (run ∷ []))) }

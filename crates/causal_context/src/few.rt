@@ -1,5 +1,5 @@
 //! Unites few runs with many: each of the few is searched for, and the many aren't walked. Both ways have the same
-//! result; only the cost differs.
+//! result; only the cost differs, so no contract says which runs are few.
 ghost use Rattle.std.specs.Prelude.{◌≡◌, ◌+◌, ◌≤◌};
 ghost use Rattle.std.specs.FinSet as set;
 ghost use Rattle.dots.specs.DotSets.{run_count, set_of};
@@ -41,8 +41,8 @@ impl RunList {
         other.len() <= FEW_RUNS || self.are_few(other) && self.count_outside(other) <= FEW_RUNS
     }
 
-    // The number of runs of the union with others. Each of the others that don't touch each other adds what it adds
-    // alone.
+    // The number of runs of the union with others. The others don't touch each other, so each changes the number as it
+    // does alone.
     pub(crate) fn searched_count(&self, other: &RunList) -> usize
         ensures value { result
             ≡ run_count (set.union (set_of self.now.items) (set_of other.now.items)) }

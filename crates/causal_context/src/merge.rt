@@ -10,7 +10,8 @@ use crate::Run;
 use crate::run_list::RunList;
 
 impl RunList {
-    // The number of runs of the union with others. Few others are searched for; for more, both are walked once.
+    // The number of runs of the union with others. Searches for each of the others if they are few (`are_few`); else walks both
+    // once.
     pub(crate) fn united_count(&self, other: &RunList) -> usize
         ensures value { result
             ≡ run_count (set.union (set_of self.now.items) (set_of other.now.items)) }
@@ -23,7 +24,7 @@ impl RunList {
         self.walked_count(other)
     }
 
-    // How many runs the union with others has. Walks both once.
+    // The number of runs of the union with others. Walks both once.
     fn walked_count(&self, other: &RunList) -> usize
         ensures value { result
             ≡ run_count (set.union (set_of self.now.items) (set_of other.now.items)) }
@@ -49,8 +50,8 @@ impl RunList {
         count
     }
 
-    // Unites the runs with others in room that is there. Takes no memory. Few others that aren't within these are searched for;
-    // for more, both are walked once.
+    // Unites the runs with others in room that is there. Takes no memory. Searches for each of the others where `are_searched`
+    // is true; else walks both once.
     pub(crate) fn absorb(&mut self, other: &RunList)
         requires { run_count (set_of self.old.items) + run_count (set_of other.now.items)
             ≤ self.old.room }
@@ -85,7 +86,8 @@ impl RunList {
     }
 }
 
-// Takes the run that begins first of those that are left of two lists, which are left from these places on.
+// Takes the run that begins first of the rests of two lists, each from a place on, and moves the place in its list past it.
+// `None` if neither has a run left; then both places stay.
 fn next_run(ours: &[Run], own: &mut usize, others: &[Run], theirs: &mut usize) -> Option<Run>
     ensures { MatchOption result
         (IsAtEnd ours.now own.old own.new × IsAtEnd others.now theirs.old theirs.new)

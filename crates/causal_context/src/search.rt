@@ -21,7 +21,8 @@ impl RunList {
             .partition_point(|run| run.is_below(site, count))
     }
 
-    // The run that has the dot of a site and a count: none has the dot past its last one.
+    // The run that has the dot of a site and a count; `None` if no run has it. The dot past its last
+    // one is in no run. It is found by bisection.
     pub(crate) fn run_with(&self, site: SiteId, count: u64) -> Option<Run>
         ensures { MatchOption result
             (in_runs self.now.items (record { site = site; count = count }) ≡ false)
@@ -41,7 +42,7 @@ impl RunList {
         Some(run)
     }
 
-    // How many runs lie before another one.
+    // How many runs lie before another one and don't touch it.
     pub(crate) fn runs_before(&self, run: Run) -> usize
         ensures within { result ≤ length self.now.items }
         ensures place { IsPartitionPoint (λ r. is_apart r run ≡ true)

@@ -7,8 +7,8 @@ use crate::Run;
 use crate::run_list::RunList;
 use dots::Memory;
 
-// A run united with all that it touches, and the places of these: from the first to before the
-// last.
+// A run united with all that it touches, and the places of these: from `start` to before
+// `end`.
 #[derive(Clone, Copy)]
 pub(crate) struct United {
     pub(crate) run: Run,
@@ -17,7 +17,7 @@ pub(crate) struct United {
 }
 
 impl RunList {
-    // A run united with all that it touches.
+    // A run united with all that it touches, and their places. The list stays.
     pub(crate) fn unite(&self, run: Run) -> United
         ensures place { TakesPlace self.now.items result.start result.run result.end }
         ensures united { IsRunsOf (replaced self.now.items result.start result.run result.end)
@@ -59,7 +59,9 @@ impl RunList {
         start + 1 + behind
     }
 
-    // Replaces the runs that a run touches by that run. Fails only when out of memory.
+    // Replaces the runs that a run touches by that run, as `unite` returned it for this list. Fails
+    // only when out of memory, and then changes nothing: never if it touches one, or there is room
+    // for one more run.
     pub(crate) fn replace(&mut self, united: United) -> Result<(), Memory>
         requires { TakesPlace self.old.items united.start united.run united.end }
         ensures ok { OnOk result (self.new.items

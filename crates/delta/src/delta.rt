@@ -109,8 +109,8 @@ impl Delta {
 
     /// Makes room for another delta, which `absorb` then joins. The delta says the same as before. Errors, in order: 1
     /// `Conflict`, exactly where `agrees` is false; 2 `CellsFull`, exactly where the join has more than 16,384 live dots; 3
-    /// `RunsFull`, exactly where the known dots of both make more than 65,536 runs; 4 `Memory`. An empty part of the other costs
-    /// nothing.
+    /// `RunsFull`, exactly where the known dots of both make more than 65,536 runs; 4 `Memory`, never if `prepared` is true. An
+    /// empty part of the other costs nothing.
     pub fn prepare(&mut self, other: &Delta) -> Result<(), JoinFault>
         ensures ready { OnOk result (IsPrepared self.new other.now) }
         ensures refusals { IsRefusedJoin self.old other.now (λ fault. result ≡ Err fault) }

@@ -26,7 +26,8 @@ pub(crate) fn knows_nothing(members: &MemberSet) -> bool
     has_no_runs(members.context())
 }
 
-// Makes room for another set, if it isn't empty.
+// Makes room for another set, if it isn't empty. What this one says stays. The errors are those of
+// `MemberSet::prepare`.
 pub(crate) fn prepare_members(members: &mut MemberSet, other: &MemberSet) -> Result<(), JoinFault>
     requires limits { IsWithinLimits members.old }
     requires others { IsWithinLimits other.now }
@@ -43,7 +44,7 @@ pub(crate) fn prepare_members(members: &mut MemberSet, other: &MemberSet) -> Res
     members.prepare(other)
 }
 
-// Whether another set was prepared, or is empty.
+// Whether another set can be absorbed, or is empty.
 pub(crate) fn has_prepared_members(members: &MemberSet, other: &MemberSet) -> bool
     ensures { IsTrue result ↔ (other.now.known ≢ set.empty → IsPrepared members.now other.now) }
 {
@@ -67,7 +68,8 @@ pub(crate) fn absorb_members(members: &mut MemberSet, other: MemberSet)
     let _ = members.cells(); // so that its limits are known
 }
 
-// Makes room for other totals, if there are any.
+// Makes room for other totals, if there are any. The totals stay. Fails only when out of memory,
+// never if there is room.
 pub(crate) fn prepare_totals(totals: &mut Totals, other: &Totals) -> Result<(), Memory>
     ensures ok { OnOk result (HasRoomFor totals.new other.now.entries) }
     ensures unchanged { totals.new.entries ≡ totals.old.entries }

@@ -19,7 +19,7 @@ UnlessMemory result fact = (result ≡ Err Memory) ⊎ fact
 abbrev pub frame_kept : Frame → Kept
 frame_kept frame = (record { maker = frame.maker; number = frame.number }, (frame.delta.members.known, (frame.delta.members.live, frame.delta.totals.entries)))
 
--- each of them is a byte
+-- each number of a list is a byte
 abbrev pub AreBytes : List ℕ → Type 0
 AreBytes bytes = All (λ b. b < 256) bytes
 

@@ -9,7 +9,7 @@ use Rattle.delta_codec.specs.declared.elements.TotalRead.{TotalRead}
 use Rattle.delta_codec.specs.Parts.{CellParts, TotalParts}
 use Rattle.delta_codec.specs.Reading.{is_dot_before, order_fault, with_cell}
 
--- totals
+-- a total that was read, as a part of a frame
 abbrev pub total_read : TotalRead → TotalParts
 total_read total = (total.key, total.totals)
 

@@ -47,7 +47,7 @@ NoReasonFails fault (len ∷ rest) = ((TEXT_BYTES < len) × (fault ≡ BadText))
 
 -- ---- fields
 
--- 0 or 1
+-- a bit is 0 or 1
 abbrev pub IsBit : ℕ → Type 0
 IsBit n = n < 2
 
@@ -179,11 +179,11 @@ pub record ElementsFail {A : Type 0} (IsGood : List A → Type 0) (spell : A →
   pub spelled : bytes ≡ flat_map spell before ++ rest
   pub next : NextFails before rest
 
--- four bytes of a number
+-- a number that four bytes can hold
 abbrev pub IsNumber4 : ℕ → Type 0
 IsNumber4 n = n < 2 ^ 32
 
--- four bytes are a number's, the greatest first
+-- the four bytes of a number, the greatest first
 abbrev pub number4 : ℕ → List ℕ
 number4 = to_be_bytes w32
 

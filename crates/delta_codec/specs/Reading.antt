@@ -95,11 +95,11 @@ flags_at version bytes = tested (λ n. nat_le 1 n && nat_le n (most_flags versio
 
 -- ---- texts
 
--- `len` bytes
+-- the next `len` bytes
 abbrev pub bytes_of : ℕ → List ℕ → Read (List ℕ)
 bytes_of len rest = if nat_lt (length rest) len then Err BadRange else Ok (take len rest, drop len rest)
 
--- `len` bytes that make a text
+-- the next `len` bytes, which make a text
 unfoldable pub text_of : ℕ → List ℕ → Read (List ℕ)
 text_of len rest =
     if nat_lt (length rest) len then Err BadRange
@@ -114,7 +114,7 @@ length_at least bytes = tested (λ len. nat_le least len && nat_le len TEXT_BYTE
 unfoldable pub text_at : ℕ → List ℕ → Read (List ℕ)
 text_at least bytes = length_at least bytes >>= λ len. text_of len.0 len.1
 
--- no reason
+-- the reason where there is no pause: it is empty
 unfoldable pub no_reason_at : List ℕ → Read (List ℕ)
 no_reason_at bytes = made (λ _. []) (tested (λ len. len == 0) BadRange (tested (λ len. nat_le len TEXT_BYTES) BadText (byte_at bytes)))
 
@@ -191,7 +191,7 @@ total_at bytes =
 
 -- ---- lists
 
--- the fault of an element that can't follow another, if it can't
+-- no fault if a test holds, and otherwise this one
 abbrev pub unless : Bool → DecodeFault → Option DecodeFault
 unless true fault = None
 unless false fault = Some fault
@@ -214,11 +214,11 @@ is_dot_before dot next = is_lt (dot_cmp dot next)
 abbrev pub is_key_before : Key → Key → Bool
 is_key_before key next = is_lt (key_cmp key next)
 
--- a dot follows the last one, and is known
+-- the fault of a dot that doesn't follow the last one or isn't known, if it has one
 abbrev pub dot_fault : (Dot → Bool) → Option Dot → Dot → Option DecodeFault
 dot_fault is_known last dot = or_else (order_fault is_dot_before last dot) (unless (is_known dot) BadRange)
 
--- an element for which there is no fault
+-- an element, or the fault that there is for it
 abbrev pub accepted : {A : Type 0} → Option DecodeFault → A → Result A DecodeFault
 accepted None x = Ok x
 accepted (Some fault) x = Err fault
@@ -296,7 +296,7 @@ totals_at = list_at total_elements MOST_TOTALS
 
 -- ---- the whole
 
--- the two bytes with which a frame begins
+-- the letters Q and D, which follow the length of a frame
 unfoldable pub magic_at : List ℕ → Read (List ℕ)
 magic_at [] = Err BadMagic
 magic_at (q ∷ []) = Err BadMagic
@@ -315,7 +315,7 @@ version_at (n ∷ rest) = if is_version n then Ok (n, rest) else Err BadVersion
 unfoldable pub heading_at : List ℕ → Read Heading
 heading_at bytes = made (λ p. record { maker = p.0; number = p.1 }) (both (site_at bytes) (λ _. count_at))
 
--- nothing is left
+-- a part after which no bytes are left
 abbrev pub ended : {A : Type 0} → A × List ℕ → Result A DecodeFault
 ended x = if length x.1 == 0 then Ok x.0 else Err BadRange
 
@@ -342,7 +342,7 @@ kept_at bytes =
     made known_of (runs_at heading.1) >>= λ known. made live_of (cells_at version.0 (set.contains known.0) known.1) >>= λ live. made totals_of (totals_at live.1) >>= λ totals.
     ended ((heading.0, (known.0, (live.0, totals.0))), totals.1)
 
--- the heading, with what stands before it
+-- the heading, after the letters and the version
 unfoldable pub opening_at : List ℕ → Read Heading
 opening_at bytes = magic_at bytes >>= λ letters. version_at letters.1 >>= λ version. heading_at version.1
 

@@ -1,7 +1,7 @@
 use thiserror::Error;
 
-/// Why no frame is decoded from the front of bytes. They are read in order, and the first rule that fails gives the fault (this
-/// project's own).
+/// Why no frame is decoded from the front of bytes. They are read in order, and the first rule that fails gives the fault,
+/// unless memory runs out before (this project's own).
 #[derive(Clone, Copy, Debug, PartialEq, Eq, Error)]
 pub enum DecodeFault {
     /// The bytes end before the frame does: more of them may follow.

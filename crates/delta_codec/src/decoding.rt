@@ -13,7 +13,7 @@ use delta::Delta;
 use dots::SiteId;
 use std::alloc::Global;
 
-// Reads the maker of a frame, and its number.
+// Reads the maker of a frame, and its number. `BadRange` if bytes are missing, or one of the two is out of its limits.
 #[tactic(auto, unfolding(crate::specs::Reading::heading_at))]
 fn read_heading(reader: &mut Reader<'_>) -> Result<(SiteId, u64), DecodeFault>
     ensures { ReturnsRead (λ x. (record { maker = x.0; number = x.1 }, reader.new)) result
@@ -24,7 +24,8 @@ fn read_heading(reader: &mut Reader<'_>) -> Result<(SiteId, u64), DecodeFault>
     Ok((maker, number))
 }
 
-// The frame that follows its length.
+// Reads a frame from the bytes after its length, which must be its own alone. The faults are those of `decode` from 2 on; `Memory`
+// never replaces a fault of the letters, the version or the heading.
 #[tactic(auto, unfolding(crate::specs::Reading::kept_at, crate::specs::Reading::opening_at))]
 fn read_content(alloc: Global, bytes: &[u8]) -> Result<Frame, DecodeFault>
     ensures value { GivesWithMemory frame_kept result (kept_at bytes.now) }
@@ -50,7 +51,8 @@ fn read_content(alloc: Global, bytes: &[u8]) -> Result<Frame, DecodeFault>
     })
 }
 
-// Reads the bytes of a frame after its length, which is their number.
+// The first `len` bytes of `rest`: those of a frame after its length. Errors, in order: 1 `TooLarge`, if `len` is over
+// `MOST_LENGTH`; 2 `BadRange`, if it is under `LEAST_LENGTH`; 3 `Truncated`, if there are fewer bytes.
 #[tactic(auto, unfolding(crate::specs::Reading::within_at))]
 fn content_within(len: usize, rest: &[u8]) -> Result<&[u8], DecodeFault>
     ensures value { ReturnsRead (λ x. x.now) result (within_at len rest.now) }
@@ -68,7 +70,8 @@ fn content_within(len: usize, rest: &[u8]) -> Result<&[u8], DecodeFault>
     Ok(&rest[..len])
 }
 
-// The length of a frame, and the bytes after it.
+// The bytes of the frame that bytes begin with, after its length. Errors, in order: 1 `Truncated`, if there are fewer than four
+// bytes; 2 those of `content_within`.
 #[tactic(auto, unfolding(crate::specs::Reading::content_in))]
 fn content_of(bytes: &[u8]) -> Result<&[u8], DecodeFault>
     ensures value { ReturnsRead (λ x. x.now) result (content_in bytes.now) }
@@ -82,7 +85,7 @@ fn content_of(bytes: &[u8]) -> Result<&[u8], DecodeFault>
     content_within(len as usize, rest)
 }
 
-// The frame at the front of the bytes, and how many bytes it has.
+// The frame at the front of the bytes, and how many bytes it has. The faults are those of `decode`.
 #[tactic(auto, unfolding(crate::specs::Reading::kept_in, crate::specs::Reading::opening_in))]
 fn read_frame(alloc: Global, bytes: &[u8]) -> Result<(Frame, usize), DecodeFault>
     ensures value { GivesWithMemory (λ x. (frame_kept x.0, x.1)) result (kept_in bytes.now) }

@@ -1,4 +1,5 @@
-//! Reads the runs, the cells and the totals of a frame from the front of bytes, each stored when it is read.
+//! Reads the runs, the cells and the totals of a frame from the front of bytes, each stored when it is read. A function returns
+//! the first fault of what it reads, or `Memory`. No contract says how far the reader is after that.
 ghost use Rattle.std.specs.Prelude.{◌≡◌, ◌↔◌, ◌≤◌, ◌<◌, IfErr, IfOk, IsSome, IsTrue, None, OnOk};
 ghost use Rattle.std.specs.Prelude.{true};
 ghost use Rattle.std.specs.declared.cmp.Ordering.TheVariants.{Less};
@@ -31,7 +32,7 @@ use member_orset::{MemberSet, SetBuilder};
 use site_totals::{TotalKey, Totals};
 use std::alloc::Global;
 
-// The key of totals, and their calls.
+// A total that was read: its site and queue, and their calls.
 #[derive(Drop)]
 pub(crate) struct TotalRead {
     key: TotalKey,
@@ -40,7 +41,7 @@ pub(crate) struct TotalRead {
 
 // ---- runs
 
-// A run.
+// Reads a run. `BadRange` if bytes are missing, or its site or a count is out of its limits.
 #[tactic(auto, unfolding(crate::specs::Reading::run_at))]
 fn read_run(reader: &mut Reader<'_>) -> Result<Run, DecodeFault>
     ensures value { ReturnsRead (λ x. (x, reader.new)) result (run_at reader.old) }
@@ -60,7 +61,7 @@ fn is_before(last: Run, run: Run) -> bool
         || last.site == run.site && last.last < run.first && run.first - last.last > 1
 }
 
-// A run that may follow the last one.
+// Reads a run. Errors, in order: 1 `BadRange`, as for `read_run`; 2 `BadOrder`, if it may not follow `last`.
 fn read_next_run(last: Option<Run>, reader: &mut Reader<'_>) -> Result<Run, DecodeFault>
     ensures value { ReturnsRead (λ x. (x, reader.new)) result (next_at run_elements last reader.old) }
     ensures within { IfOk result (λ x. IsRunWithinLimits x) }
@@ -73,7 +74,7 @@ fn read_next_run(last: Option<Run>, reader: &mut Reader<'_>) -> Result<Run, Deco
     }
 }
 
-// Adds a run to a context, which has room in its limit.
+// Adds a run to a context, which has at most 65,536 runs with it. Fails only with `Memory`.
 fn keep_run(context: &mut Context, run: Run) -> Result<(), DecodeFault>
     requires few { run_count (with_run context.old.dots run) ≤ MOST_RUNS }
     ensures ok { OnOk result (context.new.dots ≡ with_run context.old.dots run) }
@@ -88,7 +89,7 @@ fn keep_run(context: &mut Context, run: Run) -> Result<(), DecodeFault>
     }
 }
 
-// Reads `count` runs.
+// Reads `count` runs, as the context of their dots.
 fn read_counted_runs(
     alloc: Global,
     count: u32,
@@ -108,7 +109,7 @@ fn read_counted_runs(
     Ok(context)
 }
 
-// The runs, as the context of their dots.
+// Reads the list of runs, as the context of their dots. `TooLarge` if there are more than 65,536.
 #[tactic(auto, unfolding(crate::specs::Reading::list_at))]
 pub(crate) fn read_runs(alloc: Global, reader: &mut Reader<'_>) -> Result<Context, DecodeFault>
     ensures { GivesWithMemory (λ x. (x.dots, reader.new)) result
@@ -120,7 +121,7 @@ pub(crate) fn read_runs(alloc: Global, reader: &mut Reader<'_>) -> Result<Contex
 
 // ---- cells
 
-// A dot.
+// Reads a dot. `BadRange` if bytes are missing, or its site or count is out of its limits.
 #[tactic(auto, unfolding(crate::specs::Reading::dot_at))]
 fn read_dot(reader: &mut Reader<'_>) -> Result<Dot, DecodeFault>
     ensures { ReturnsRead (λ x. (x, reader.new)) result (dot_at reader.old) }
@@ -133,7 +134,7 @@ fn read_dot(reader: &mut Reader<'_>) -> Result<Dot, DecodeFault>
     }
 }
 
-// A dot and the number of its queue.
+// Reads a dot and the number of its queue. `BadRange` if bytes are missing, or a number is out of its limits.
 #[tactic(auto, unfolding(crate::specs::Reading::place_at))]
 fn read_place(reader: &mut Reader<'_>) -> Result<(Dot, u16), DecodeFault>
     ensures { ReturnsRead (λ x. (record { dot = x.0; queue = x.1 }, reader.new)) result
@@ -144,7 +145,7 @@ fn read_place(reader: &mut Reader<'_>) -> Result<(Dot, u16), DecodeFault>
     Ok((dot, queue))
 }
 
-// Whether a dot may follow the last one.
+// Whether a dot may follow the last one: it is greater, or there is none.
 fn follows(last: Option<Dot>, dot: Dot) -> bool
     ensures { IsTrue result ↔ (order_fault is_dot_before last dot ≡ None) }
 {
@@ -154,7 +155,7 @@ fn follows(last: Option<Dot>, dot: Dot) -> bool
     }
 }
 
-// Checks that a dot may follow the last one, and is known.
+// Checks a dot. Errors, in order: 1 `BadOrder`, if it may not follow the last one; 2 `BadRange`, if it is unknown.
 fn see_dot(known: &Context, last: Option<Dot>, dot: Dot) -> Result<(), DecodeFault>
     ensures ok { OnOk result (dot_fault (set.contains known.now.dots) last dot ≡ None) }
     ensures err { IfErr result
@@ -171,7 +172,8 @@ fn see_dot(known: &Context, last: Option<Dot>, dot: Dot) -> Result<(), DecodeFau
     Ok(())
 }
 
-// Adds a cell to a builder.
+// Adds a live dot with its member and fields to a builder. The dot is known and greater than those before, a field is set, and
+// fewer than 16,384 dots are live so far. Fails only with `Memory`, and adds nothing then, though no contract says this.
 fn keep_cell(
     builder: &mut SetBuilder,
     dot: Dot,
@@ -193,8 +195,10 @@ fn keep_cell(
     }
 }
 
-// Reads a cell of this version whose dot may follow the last one and is known, adds it to a builder, and returns its dot. The cell
-// is moved once, into the set.
+// Reads a cell of this version, adds it to a builder, and returns its dot. `last` is the greatest live dot of the builder, if it
+// has one, and fewer than 16,384 are live so far. The cell is moved once, into the set. Errors, in order: 1 `BadRange` or
+// `BadText`, of the cell itself; 2 `BadOrder`, if its dot may not follow the last one; 3 `BadRange`, if the dot is unknown; 4
+// `Memory`. A fault adds nothing, though no contract says this.
 #[tactic(auto, unfolding(crate::specs::Reading::cell_at, crate::specs::Reading::fields_at, crate::specs::Reading::set_fields_at))]
 fn read_cell(
     builder: &mut SetBuilder,
@@ -228,7 +232,7 @@ fn read_cell(
     Ok(dot)
 }
 
-// Reads `count` cells of this version, and adds them to a builder.
+// Reads `count` cells of this version, and adds them to a builder in which no dot is live. A fault may come after some were added.
 fn read_counted_cells(
     builder: &mut SetBuilder,
     version: u8,
@@ -249,7 +253,8 @@ fn read_counted_cells(
     Ok(())
 }
 
-// The cells of this version, as the set that knows the dots of a context.
+// Reads the list of cells of this version, as the set that knows the dots of a context: the dots without a cell are dead.
+// `TooLarge` if there are more than 16,384 cells. A fault drops the context.
 #[tactic(auto, unfolding(crate::specs::Reading::list_at))]
 pub(crate) fn read_cells(
     alloc: Global,
@@ -270,7 +275,7 @@ pub(crate) fn read_cells(
 
 // ---- totals
 
-// Totals, of which one isn't zero.
+// Reads a total. `BadRange` if bytes are missing, a number is out of its limits, or both counts are zero.
 #[tactic(auto, unfolding(crate::specs::Reading::total_at))]
 fn read_total(reader: &mut Reader<'_>) -> Result<TotalRead, DecodeFault>
     ensures value { ReturnsRead (λ x. (total_read x, reader.new)) result (total_at reader.old) }
@@ -293,7 +298,7 @@ fn read_total(reader: &mut Reader<'_>) -> Result<TotalRead, DecodeFault>
     Ok(TotalRead { key, totals })
 }
 
-// Totals whose key may follow the last one.
+// Reads a total. Errors, in order: 1 `BadRange`, as for `read_total`; 2 `BadOrder`, if its key isn't greater than the last one.
 fn read_next_total(
     last: Option<TotalKey>,
     reader: &mut Reader<'_>,
@@ -311,7 +316,7 @@ fn read_next_total(
     }
 }
 
-// Joins totals into those before.
+// Joins a total with those before. Fails only with `Memory`.
 fn keep_total(totals: &mut Totals, total: &TotalRead) -> Result<(), DecodeFault>
     requires queue { total.now.key.queue < QUEUES }
     requires completed { total.now.totals.completed ≤ MOST_CALLS }
@@ -345,7 +350,7 @@ fn read_counted_totals(
     Ok(totals)
 }
 
-// The totals.
+// Reads the list of totals. `TooLarge` if there are more than 16,384.
 #[tactic(auto, unfolding(crate::specs::Reading::list_at))]
 pub(crate) fn read_totals(alloc: Global, reader: &mut Reader<'_>) -> Result<Totals, DecodeFault>
     ensures { GivesWithMemory (λ x. (x.entries, reader.new)) result

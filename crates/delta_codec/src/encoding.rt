@@ -14,7 +14,8 @@ use delta::Delta;
 use dots::SiteId;
 use std::alloc::Global;
 
-// What follows the length of a frame with this delta, whose context has these runs.
+// Appends what follows the length of a frame with this delta, whose context has these runs. Fails only when out of memory; then a
+// part of it may have been appended.
 fn put_content(
     out: &mut Vec<u8>,
     maker: SiteId,
@@ -34,7 +35,7 @@ fn put_content(
     Ok(())
 }
 
-// The bytes of a frame with this delta, whose context has these runs.
+// The bytes of a frame with this delta, whose context has these runs. Fails only when out of memory.
 fn encode_with(
     alloc: Global,
     maker: SiteId,
@@ -55,8 +56,9 @@ fn encode_with(
     Ok(out)
 }
 
-/// The bytes of the frame of this maker and number with this delta, as `encode` gives those of a frame. Borrows the delta and
-/// copies nothing of it. Fails only when out of memory.
+/// The bytes that encode the frame of this maker and number with this delta in version `VERSION`, if the frame is within the
+/// ranges of the format, as for `encode`. For other frames the result is unspecified. Borrows the delta and copies nothing of it.
+/// Fails only when out of memory.
 pub fn encode_parts(
     alloc: Global,
     maker: SiteId,

@@ -36,12 +36,14 @@ pub(crate) trait FieldBytes: Drop + Sized {
         ensures limit { result ≤ most }
         ensures few { result ≤ 255 };
 
-    // Appends it to earlier bytes, and shows that it is within its limits.
+    // Appends it to earlier bytes, and shows that it is within its limits. Fails only
+    // when out of memory; then a part of it may have been appended.
     fn put(&self, out: &mut Vec<u8>) -> Result<(), Memory>
         ensures written { OnOk result (out.new.items ≡ out.old.items ++ bytes self.now) }
         ensures within { OnOk result (is_within self.now) };
 
-    // Reads it from the front of the bytes that are left.
+    // Reads it from the front of the bytes that are left. `BadRange` or `BadText`: the
+    // first fault that they have.
     fn read(reader: &mut Reader<'_>) -> Result<Self, DecodeFault>
         ensures { ReturnsRead (λ x. (x, reader.new)) result (at reader.old) };
 }

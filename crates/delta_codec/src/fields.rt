@@ -1,4 +1,5 @@
-//! Texts, and a field of a dot, at the front of bytes.
+//! Reads texts, and a field of a dot, from the front of bytes. No contract says how far the
+//! reader is after a fault.
 ghost use Rattle.std.specs.Prelude.{◌≡◌, ◌≤◌, [], length, is_some, IfOk};
 ghost use Rattle.delta_codec.specs.Reading.{ReturnsRead, text_at, no_reason_at, stamp_at, reason_at};
 ghost use Rattle.delta_codec.specs.Reading.{field_at, length_at};
@@ -10,7 +11,8 @@ use crate::reader::Reader;
 use dots::{Interface, Stamp, TEXT_BYTES, Text80};
 use lww_registers::Register;
 
-// How many bytes a text has: at least `least`.
+// Reads how many bytes a text has. Errors, in order: 1 `BadRange`, if the byte is missing; 2
+// `BadText`, if it is below `least` or over 80.
 fn read_length(least: u8, reader: &mut Reader<'_>) -> Result<usize, DecodeFault>
     ensures value { ReturnsRead (λ x. (x, reader.new)) result (length_at least reader.old) }
     ensures least { IfOk result (λ x. least ≤ x) }
@@ -23,7 +25,8 @@ fn read_length(least: u8, reader: &mut Reader<'_>) -> Result<usize, DecodeFault>
     Ok(usize::from(len))
 }
 
-// A text of at least `least` bytes.
+// Reads a text of at least `least` bytes. Errors, in order: 1 those of `read_length`; 2
+// `BadRange`, if bytes are missing; 3 `BadText`, if a byte is a CR, LF or NUL.
 #[tactic(auto, unfolding(crate::specs::Reading::text_at))]
 pub(crate) fn read_text(least: u8, reader: &mut Reader<'_>) -> Result<Text80, DecodeFault>
     ensures value { ReturnsRead (λ x. (x, reader.new)) result (text_at least reader.old) }
@@ -33,7 +36,7 @@ pub(crate) fn read_text(least: u8, reader: &mut Reader<'_>) -> Result<Text80, De
     reader.text(len)
 }
 
-// An interface.
+// Reads an interface, a text of at least one byte. The errors are those of `read_text`.
 #[tactic(auto, unfolding(crate::specs::Reading::text_at, crate::specs::Reading::text_of))]
 pub(crate) fn read_interface(reader: &mut Reader<'_>) -> Result<Interface, DecodeFault>
     ensures { ReturnsRead (λ x. (x, reader.new)) result (text_at 1 reader.old) }
@@ -46,7 +49,8 @@ pub(crate) fn read_interface(reader: &mut Reader<'_>) -> Result<Interface, Decod
     }
 }
 
-// No reason.
+// Reads the reason where there is no pause: it must be empty. Errors, in order: 1 `BadRange`,
+// if its length is missing; 2 `BadText`, if it is over 80; 3 `BadRange`, if it isn't 0.
 #[tactic(auto, unfolding(crate::specs::Reading::no_reason_at))]
 fn read_no_reason(reader: &mut Reader<'_>) -> Result<Text80, DecodeFault>
     ensures value { ReturnsRead (λ x. (x, reader.new)) result (no_reason_at reader.old) }
@@ -62,7 +66,8 @@ fn read_no_reason(reader: &mut Reader<'_>) -> Result<Text80, DecodeFault>
     Ok(Text80::empty())
 }
 
-// The reason after the byte of a pause: none where it is 0.
+// Reads the reason after the byte of a pause, by `read_no_reason` if that byte is 0, and
+// otherwise by `read_text`.
 #[tactic(auto, unfolding(crate::specs::Reading::reason_at))]
 pub(crate) fn read_reason(paused: u8, reader: &mut Reader<'_>) -> Result<Text80, DecodeFault>
     ensures value { ReturnsRead (λ x. (x, reader.new)) result (reason_at paused reader.old) }
@@ -75,7 +80,8 @@ pub(crate) fn read_reason(paused: u8, reader: &mut Reader<'_>) -> Result<Text80,
     }
 }
 
-// A stamp.
+// Reads a stamp: its time, then its site. `BadRange` if bytes are missing, or one of the two
+// is out of its limits.
 #[tactic(auto, unfolding(crate::specs::Reading::stamp_at))]
 fn read_stamp(reader: &mut Reader<'_>) -> Result<Stamp, DecodeFault>
     ensures { ReturnsRead (λ x. (x, reader.new)) result (stamp_at reader.old) }
@@ -88,7 +94,8 @@ fn read_stamp(reader: &mut Reader<'_>) -> Result<Stamp, DecodeFault>
     }
 }
 
-// A field: its stamp and its value where its flag says that it is set.
+// Reads a field that is set, its stamp and then its value, if `flag` is true. Otherwise it
+// isn't set, and nothing is read.
 #[tactic(auto, unfolding(crate::specs::Reading::field_at, crate::specs::Reading::entry_at))]
 pub(crate) fn read_field<T: FieldBytes>(
     flag: bool,

@@ -1,4 +1,6 @@
-//! Numbers at the front of bytes: each within its limits.
+//! Reads numbers from the front of bytes, each within its limits. A read fails with
+//! `BadRange` if bytes are missing or, unless it names another error, if the number is out
+//! of its limits. No contract says how far the reader is after a fault.
 ghost use Rattle.std.specs.Prelude.{◌≡◌, ◌≤◌, ◌<◌, IfOk};
 ghost use Rattle.dots.specs.declared.limits.TheConstants.{MOST_CALLS, MOST_COUNT, QUEUES};
 ghost use Rattle.dots.specs.Values.{IsCount};
@@ -11,7 +13,7 @@ use crate::reader::Reader;
 use crate::{DecodeFault, OLDEST_VERSION};
 use dots::{MOST_CALLS, MOST_COUNT, QUEUES, SiteId};
 
-// A site.
+// The number of a site: below 64.
 #[tactic(auto, unfolding(crate::specs::Reading::site_at))]
 pub(crate) fn read_site(reader: &mut Reader<'_>) -> Result<SiteId, DecodeFault>
     ensures { ReturnsRead (λ x. (x, reader.new)) result (site_at reader.old) }
@@ -36,7 +38,7 @@ pub(crate) fn read_count(reader: &mut Reader<'_>) -> Result<u64, DecodeFault>
     Ok(number)
 }
 
-// The last count of a run that has this first one.
+// The last count of a run that has this first one: `first` to 2^40.
 #[tactic(auto, unfolding(crate::specs::Reading::last_at))]
 pub(crate) fn read_last(first: u64, reader: &mut Reader<'_>) -> Result<u64, DecodeFault>
     ensures value { ReturnsRead (λ x. (x, reader.new)) result (last_at first reader.old) }
@@ -49,7 +51,7 @@ pub(crate) fn read_last(first: u64, reader: &mut Reader<'_>) -> Result<u64, Deco
     Ok(number)
 }
 
-// The number of a queue.
+// The number of a queue: below 256.
 #[tactic(auto, unfolding(crate::specs::Reading::queue_at))]
 pub(crate) fn read_queue(reader: &mut Reader<'_>) -> Result<u16, DecodeFault>
     ensures value { ReturnsRead (λ x. (x, reader.new)) result (queue_at reader.old) }
@@ -62,7 +64,7 @@ pub(crate) fn read_queue(reader: &mut Reader<'_>) -> Result<u16, DecodeFault>
     Ok(number)
 }
 
-// How many calls a site has counted.
+// How many calls a site has counted: at most 1,000,000,000.
 #[tactic(auto, unfolding(crate::specs::Reading::calls_at))]
 pub(crate) fn read_calls(reader: &mut Reader<'_>) -> Result<u64, DecodeFault>
     ensures value { ReturnsRead (λ x. (x, reader.new)) result (calls_at reader.old) }
@@ -95,7 +97,7 @@ fn flags_of_all(version: u8) -> u8
     if version == OLDEST_VERSION { 7 } else { 15 }
 }
 
-// The flags of a cell of this version.
+// The flags of a cell of this version: one at least is set.
 #[tactic(auto, unfolding(crate::specs::Reading::flags_at))]
 pub(crate) fn read_flags(version: u8, reader: &mut Reader<'_>) -> Result<u8, DecodeFault>
     ensures value { ReturnsRead (λ x. (x, reader.new)) result (flags_at version reader.old) }
@@ -109,7 +111,7 @@ pub(crate) fn read_flags(version: u8, reader: &mut Reader<'_>) -> Result<u8, Dec
     Ok(number)
 }
 
-// How many elements a list has, at most `most`.
+// How many elements a list has. `TooLarge` if they are more than `most`.
 #[tactic(auto, unfolding(crate::specs::Reading::size_at))]
 pub(crate) fn read_size(most: usize, reader: &mut Reader<'_>) -> Result<u32, DecodeFault>
     ensures value { ReturnsRead (λ x. (x, reader.new)) result (size_at most reader.old) }

@@ -9,7 +9,8 @@ use crate::{DecodeFault, OLDEST_VERSION, VERSION};
 use dots::Text80;
 use std::marker::Model;
 
-// Bytes that are read in order. Contracts see those that are left.
+// Bytes that are read in order. Contracts see those that are left, except after a fault. A
+// read fails with `BadRange` if too few bytes are left, unless it names another fault.
 #[derive(Drop)]
 pub(crate) struct Reader<'a> {
     left: &'a [u8],
@@ -104,7 +105,7 @@ impl<'a> Reader<'a> {
         Ok(front)
     }
 
-    // The next `len` bytes as a text.
+    // The next `len` bytes as a text. `BadText` if one of them is a CR, LF or NUL.
     #[tactic(auto, unfolding(crate::specs::Reading::text_of))]
     pub(crate) fn text(&mut self, len: usize) -> Result<Text80, DecodeFault>
         requires { len ≤ TEXT_BYTES }
@@ -118,7 +119,8 @@ impl<'a> Reader<'a> {
         }
     }
 
-    // The letters that begin each frame.
+    // The two letters that follow each frame's length. `BadMagic` if they are missing or
+    // others.
     #[tactic(auto, unfolding(crate::specs::Reading::magic_at))]
     pub(crate) fn magic(&mut self) -> Result<(), DecodeFault>
         ensures { ReturnsRead (λ _. (magic, self.new)) result (magic_at self.old) }
@@ -135,7 +137,8 @@ impl<'a> Reader<'a> {
         }
     }
 
-    // The version of the format: one of those that are read.
+    // The version of the format, from `OLDEST_VERSION` to `VERSION`. `BadVersion` if it is
+    // missing or another.
     #[tactic(auto, unfolding(crate::specs::Reading::version_at))]
     pub(crate) fn version(&mut self) -> Result<u8, DecodeFault>
         ensures { ReturnsRead (λ x. (x, self.new)) result (version_at self.old) }

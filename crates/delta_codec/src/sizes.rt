@@ -16,7 +16,7 @@ use lww_registers::{Fields, Register};
 use member_orset::MemberSet;
 use site_totals::Totals;
 
-// How many bytes a text has.
+// How many bytes a text has in a frame: one for its length, and its own.
 pub(crate) fn text_size(text: &Text80) -> usize
     ensures value { result ≡ length (text_bytes text.now) }
     ensures limit { result ≤ most_text }
@@ -24,7 +24,7 @@ pub(crate) fn text_size(text: &Text80) -> usize
     1 + text.as_bytes().len()
 }
 
-// How many bytes a field has: where it is set its stamp, nine bytes, and its value.
+// How many bytes a field has: nine of its stamp and those of its value if it is set, and otherwise none.
 fn field_size<T: FieldBytes>(field: &Register<T>) -> usize
     ensures value { result ≡ length (field_bytes T.bytes field.now) }
     ensures limit { result ≤ most_field T.most }
@@ -35,7 +35,7 @@ fn field_size<T: FieldBytes>(field: &Register<T>) -> usize
     }
 }
 
-// How many bytes fields have.
+// How many bytes fields have: one of flags, and those of each field.
 fn fields_size(fields: &Fields) -> usize
     ensures value { result ≡ length (fields_bytes fields.now) }
     ensures limit { result ≤ most_fields }
@@ -47,7 +47,7 @@ fn fields_size(fields: &Fields) -> usize
     1 + (penalty + (pause + (label + ring)))
 }
 
-// How many bytes a cell has.
+// How many bytes a cell has: eleven of dot and queue, the interface, the fields. The contract names the dot.
 fn cell_size(dot: Dot, member: &Member, fields: &Fields) -> usize
     ensures value { result ≡ length (cell_bytes (dot, (member.now, fields.now))) }
     ensures limit { result ≤ most_cell }
@@ -55,7 +55,7 @@ fn cell_size(dot: Dot, member: &Member, fields: &Fields) -> usize
     11 + (text_size(member.interface.text()) + fields_size(fields))
 }
 
-// How many bytes the cells of a set have.
+// How many bytes the cells of a set have, without the number of cells.
 fn cells_size(members: &MemberSet) -> usize
     requires { map.len members.now.live ≤ MOST_LIVE }
     ensures value { result ≡ length (flat_map cell_bytes (map.entries members.now.live)) }
@@ -80,7 +80,9 @@ pub(crate) fn count_of(totals: &Totals) -> usize
     count
 }
 
-// How many bytes a frame with this delta has after its length, whatever its heading, if its context has these runs.
+// How many bytes a frame with this delta has after its length, whatever its heading, if its context has these runs:
+// 24 of letters, version, heading and the three numbers of elements, 17 of each run, 19 of each total, and the
+// cells.
 pub(crate) fn content_size(delta: &Delta, runs: &[Run]) -> usize
     requires { length runs.now ≤ MOST_RUNS }
     ensures value { (heading : Heading)

@@ -1,4 +1,5 @@
-//! Appends the parts of a frame to earlier bytes. The contracts show that what is written is within its limits.
+//! Appends the parts of a frame to earlier bytes. Each function fails only when out of memory; then some of its
+//! bytes may have been appended. Clauses named `within` show that what was written is within its limits.
 ghost use Rattle.std.specs.Prelude.{◌≡◌, ◌++◌, ◌≤◌, OnOk, is_some, length};
 ghost use Rattle.std.specs.List.{All, flat_map};
 ghost use Rattle.std.specs.FinMap as map;
@@ -95,7 +96,7 @@ fn flag<T: FieldBytes>(field: &Register<T>) -> u8
     u8::from(field.stamp().is_some())
 }
 
-// Which fields are set.
+// Which fields are set: 1 for the penalty, 2 for the pause, 4 for the label, 8 for the ring, added up.
 fn flags(fields: &Fields) -> u8
     ensures { result ≡ flags_of fields.now }
 {
@@ -127,7 +128,7 @@ fn put_dot(out: &mut Vec<u8>, dot: Dot) -> Result<(), Memory>
     put_number8(out, dot.count())
 }
 
-// A cell.
+// A cell: dot, queue, interface and fields.
 fn put_cell(out: &mut Vec<u8>, dot: Dot, member: &Member, fields: &Fields) -> Result<(), Memory>
     ensures written { OnOk result
         (out.new.items ≡ out.old.items ++ cell_bytes (dot, (member.now, fields.now))) }
@@ -140,7 +141,7 @@ fn put_cell(out: &mut Vec<u8>, dot: Dot, member: &Member, fields: &Fields) -> Re
     Ok(())
 }
 
-// A run.
+// A run: site, first count and last.
 fn put_run(out: &mut Vec<u8>, run: Run) -> Result<(), Memory>
     ensures { OnOk result (out.new.items ≡ out.old.items ++ run_bytes run) }
 {
@@ -149,7 +150,7 @@ fn put_run(out: &mut Vec<u8>, run: Run) -> Result<(), Memory>
     put_number8(out, run.last)
 }
 
-// Totals.
+// A total: site, queue, completed and abandoned calls.
 fn put_total(out: &mut Vec<u8>, key: TotalKey, totals: CallTotals) -> Result<(), Memory>
     ensures { OnOk result (out.new.items ≡ out.old.items ++ total_bytes (key, totals)) }
 {
@@ -181,7 +182,7 @@ fn put_cells(out: &mut Vec<u8>, members: &MemberSet) -> Result<(), Memory>
     Ok(())
 }
 
-// Totals, in order.
+// All totals, in the order of their sites and queues.
 fn put_totals(out: &mut Vec<u8>, totals: &Totals) -> Result<(), Memory>
     ensures written { OnOk result (out.new.items
         ≡ out.old.items ++ flat_map total_bytes (map.entries totals.now.entries)) }
@@ -228,7 +229,8 @@ pub(crate) fn put_total_list(out: &mut Vec<u8>, totals: &Totals) -> Result<(), M
     Ok(())
 }
 
-// The letters that begin each frame, the version that sites write, the maker of the frame, and its number.
+// The letters that follow each frame's length, the version that sites write, the maker of the frame, and its
+// number.
 pub(crate) fn put_opening(out: &mut Vec<u8>, maker: SiteId, number: u64) -> Result<(), Memory>
     ensures written { OnOk result
         (out.new.items

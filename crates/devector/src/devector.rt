@@ -33,7 +33,7 @@ impl<T> Model for Devector<T> {
     ghost invariant = { λ d. d.first ≤ vec_len d.items };
 }
 
-// Drops the first items. If there are none to drop, moves nothing.
+// Drops the first `count` items. If there are none to drop, moves nothing.
 fn drop_front<T: Copy>(items: &mut Vec<T>, count: usize)
     requires { count ≤ vec_len items.old }
     ensures items { items.new.items ≡ drop count items.old.items }
@@ -77,7 +77,7 @@ impl<T: Copy> Devector<T> {
         items
     }
 
-    /// The allocator that it grows with.
+    /// The allocator that it grows with. No contract says which it is.
     pub fn allocator(&self) -> Global {
         *self.items.allocator()
     }
@@ -134,7 +134,7 @@ impl<T: Copy> Devector<T> {
         place < self.len() - place
     }
 
-    // Whether there is room on that side of a place on which fewer items are.
+    // Whether there is room on that side of a place on which fewer items are. No contract says this: only the cost depends on it.
     fn has_room_near(&self, place: usize) -> bool
         requires { place ≤ length self.now.items }
     {
@@ -197,7 +197,7 @@ impl<T: Copy> Devector<T> {
         }
     }
 
-    /// Appends an item, as `insert` inserts one.
+    /// Appends an item, in room that is there. Takes no memory. Moves items as `insert` does.
     pub fn push(&mut self, item: T)
         requires { length self.old.items < self.old.room }
         ensures items { self.new.items ≡ self.old.items ++ item ∷ [] }

@@ -3,7 +3,7 @@ ghost use Rattle.std.specs.Prelude.{◌≡◌, ◌↔◌, IsTrue, IfOk};
 use crate::Memory;
 use std::marker::Model;
 
-/// Bytes that are held unchanged, such as a report, an ActionID or a frame in a journal.
+/// Bytes that are held unchanged by one owner, such as an ActionID or the body of a stored row.
 #[derive(Drop)]
 pub struct Bytes {
     held: Vec<u8>,

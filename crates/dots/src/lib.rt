@@ -1,5 +1,5 @@
 //! The values of Queue Sites within their limits: sites, dots, stamps, short texts, members and
-//! their fields, with their orders, and bytes that are held unchanged.
+//! their fields, with their orders, and bytes that are held unchanged, by one owner or several.
 //!
 //! A value that exists is within its limits, so no crate above tests them again.
 #![tactic(auto)]
@@ -15,6 +15,7 @@ mod member;
 mod pause;
 mod penalty;
 mod queue_name;
+mod shared_bytes;
 mod site_id;
 mod stamp;
 mod text80;
@@ -33,6 +34,7 @@ pub use member::Member;
 pub use pause::Pause;
 pub use penalty::Penalty;
 pub use queue_name::QueueName;
+pub use shared_bytes::SharedBytes;
 pub use site_id::SiteId;
 pub use stamp::Stamp;
 pub use std::alloc::AllocError as Memory;

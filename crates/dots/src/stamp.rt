@@ -12,7 +12,8 @@ use std::cmp::Ordering;
 use std::marker::Model;
 
 /// When a value was written: a time from 1 to 2^40, and the site that wrote it (RR-7506's timestamp of a
-/// last-writer register). Stamps are ordered by time, then by site, so no two writes have one.
+/// last-writer register). Stamps are ordered by time, then by site. A site's times rise, so no two
+/// writes have one stamp.
 #[derive(Clone, Copy, Debug, PartialEq, Eq)]
 pub struct Stamp {
     time: u64,

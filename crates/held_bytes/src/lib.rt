@@ -27,7 +27,7 @@ impl Model for HeldBytes {
     ghost invariant = { λ h. h.taken ≤ vec_len h.bytes };
 }
 
-// Drops the first bytes.
+// Drops the first `count` bytes.
 fn drop_front(bytes: &mut Vec<u8>, count: usize)
     requires { count ≤ vec_len bytes.old }
     ensures { bytes.new.items ≡ drop count bytes.old.items }
@@ -38,7 +38,7 @@ fn drop_front(bytes: &mut Vec<u8>, count: usize)
 }
 
 impl HeldBytes {
-    /// None are held. Takes no memory.
+    /// No bytes are held. Takes no memory.
     pub fn new(alloc: Global) -> HeldBytes
         ensures { result ≡ [] }
     {
@@ -48,7 +48,7 @@ impl HeldBytes {
         }
     }
 
-    /// Those that are held.
+    /// The bytes that are held, in order.
     pub fn as_slice(&self) -> &[u8]
         ensures { result.now ≡ self.now }
     {
@@ -76,7 +76,7 @@ impl HeldBytes {
         self.taken += count;
     }
 
-    /// Takes all.
+    /// Takes all bytes, so that none are held.
     pub fn clear(&mut self)
         ensures { self.new ≡ [] }
     {

@@ -29,6 +29,6 @@ pub record AreFreed (dots : List Placed) (held : CellMap) (spent : IdSet) (after
   pub spent_now : (id : Id) → WasFreed held after id → sets.contains now id ≡ true
   pub spent_alone : (id : Id) → sets.contains now id ≡ true → (sets.contains spent id ≡ true) ⊎ WasFreed held after id
 
--- ids that pass a test have no cell, and the others have the one that they had
+-- placed dots that pass a test have no cell, and the others have the one that they had
 abbrev pub AreChosen : (Dot → Bool) → List Placed → CellMap → CellMap → Type 0
 AreChosen test dots held after = All (λ p. maps.get after p.id ≡ (if test p.dot then None else maps.get held p.id)) dots

@@ -26,6 +26,7 @@ index-prop index live a b = λ i. record {
   lists = λ member dot. Coded-set coded_bool _ _ (a.lists member dot) (b.lists member dot) i;
 }
 
+-- that live dots are kept by an index has one proof at most
 pub indexed-prop : (s : PlacedState) (members : List Id) → IsProp (AreIndexed s members)
 indexed-prop s members a b = λ i. record {
   placed = placed-prop s.dots s.held s.spent a.placed b.placed i;

@@ -38,7 +38,9 @@ impl<const LAST: u32> Model for CellsBuilder<LAST> {
     ghost invariant = { λ b. AreUnlisted b.placed b.members.items (vec_capacity b.members) };
 }
 
-// Makes room for one more cell, and in an empty list for the ids of all cells.
+// Makes room for one more cell, and in an empty list for the ids of all cells. Only room changes. Errors, in order: 1
+// `Full`, exactly where the retired places and the cells, with one more, are over 1,048,576; 2 `Memory`, never if there is
+// room; after it there may be more room than before.
 fn make_room<const LAST: u32>(
     placed: &mut PlacedCells<LAST>,
     members: &mut Vec<CellId>,

@@ -39,7 +39,7 @@ impl<'a> Model for Cells<'a> {
 }
 
 impl<'a> Cells<'a> {
-    // All live dots.
+    // All live dots in order, each with its cell.
     pub(crate) fn of(cells: &'a PlacedCells<LAST_GENERATION>) -> Cells<'a>
         ensures { result ≡ entries_of (cells_of cells.now) }
     {

@@ -49,7 +49,7 @@ impl<'a> Cursor<'a> {
         Cursor { cells, next: 0 }
     }
 
-    /// The member and the fields of a dot, if it is live.
+    /// The member and the fields of a dot, or `None` if it isn't live. What contracts see of the cursor stays.
     pub fn get(&mut self, dot: Dot) -> Option<Cell<'a>>
         ensures value { option_map cell_read result ≡ map.get self.old dot }
         ensures same { self.new ≡ self.old }

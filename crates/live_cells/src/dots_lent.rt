@@ -36,7 +36,7 @@ impl<'a> Model for Dots<'a> {
 }
 
 impl<'a> Dots<'a> {
-    // The live dots of a member, by the index of members.
+    // All live dots of a member, in order, from the index of members.
     pub(crate) fn of(index: MemberIndex<'a, LAST_GENERATION>, member: &Member) -> Dots<'a>
         ensures { result
             ≡ dots_listed (group member.now

@@ -22,7 +22,8 @@ fn is_dead(known: &Context, there: &mut Cursor<'_>, dot: Dot) -> bool
     known.contains(dot) && there.get(dot).is_none()
 }
 
-// Frees the cells of the dots of a context that aren't live there.
+// Frees the cells of the dots of a context that aren't live there, and spends their ids. The other
+// cells stay. `dots` lists all that have a cell.
 pub(crate) fn free_cells<const LAST: u32>(
     cells: &mut Arena<LiveDot, LAST>,
     dots: &[Placed],
@@ -42,7 +43,8 @@ pub(crate) fn free_cells<const LAST: u32>(
     }
 }
 
-// Removes the dots that have no cell. If there are as many cells as dots, reads nothing.
+// Removes the dots that have no cell; each cell has its dot in the list. If there are as many cells
+// as dots, reads nothing.
 pub(crate) fn keep_dots<const LAST: u32>(cells: &Arena<LiveDot, LAST>, dots: &mut Devector<Placed>)
     requires { ArePlaced (with_cells cells.now.held dots.old.items) cells.now.held
         cells.now.spent }
@@ -59,7 +61,8 @@ pub(crate) fn keep_dots<const LAST: u32>(cells: &Arena<LiveDot, LAST>, dots: &mu
     );
 }
 
-// Removes the ids that have no cell. If there are as many dots as ids, reads nothing.
+// Removes the ids that have no cell; each cell has its id in the list. If there are as many dots as
+// ids, reads nothing.
 pub(crate) fn keep_ids<const LAST: u32>(cells: &PlacedCells<LAST>, ids: &mut Devector<CellId>)
     requires { AreIndexed cells.now
         (filter (λ id. map.contains_key cells.now.held id) ids.old.items) }

@@ -19,7 +19,8 @@ pub(crate) struct Latest<'a> {
     pub(crate) ring: &'a Register<bool>,
 }
 
-// The register of the later stamp; for equal stamps the first.
+// The register of the later stamp; the first for equal stamps. If one isn't set, the
+// other one.
 fn later<'a, T>(first: &'a Register<T>, second: &'a Register<T>) -> &'a Register<T>
     ensures { result.now ≡ join_of first.now second.now }
 {
@@ -61,7 +62,8 @@ impl<'a> Latest<'a> {
         }
     }
 
-    // The row that they show.
+    // The row that they show. A field that isn't set shows its default: penalty 0, not
+    // paused, no label, rings.
     pub(crate) fn row(self) -> Row<'a>
         ensures { row_view result ≡ row_of_fields (latest_fields self.entry) }
     {

@@ -91,7 +91,7 @@ impl<const LAST: u32> LiveCells<LAST> {
         }
     }
 
-    /// The allocator that it grows with.
+    /// The allocator that it grows with. No contract says which it is.
     pub fn allocator(&self) -> Global {
         self.placed.allocator()
     }
@@ -223,7 +223,7 @@ impl<const LAST: u32> LiveCells<LAST> {
         id
     }
 
-    /// Removes a dot and retires its id. Changes nothing if the dot isn't live.
+    /// Removes a dot and spends its id. Changes nothing if the dot isn't live. The room that is left is no less than before.
     pub fn remove(&mut self, dot: Dot)
         ensures live { self.new.live ≡ map.remove self.old.live dot }
         ensures ids { self.new.ids ≡ map.remove self.old.ids dot }
@@ -262,7 +262,7 @@ impl<const LAST: u32> LiveCells<LAST> {
 
     /// Joins the fields of a dot with others that agree with them, if the dot is live. Takes no memory. `guess` is the
     /// expected number of live dots before it; any number is correct, but if it is wrong the dot is searched for. Returns the
-    /// guess for a dot right after it.
+    /// guess for a dot right after it; no contract says which number it is.
     pub fn join_fields(&mut self, guess: usize, dot: Dot, fields: &Fields) -> usize
         requires { IfSome (map.get self.old.live dot) (λ h. FieldsAgree h.1 fields.now) }
         ensures live { self.new.live ≡ fields_joined_at self.old.live dot fields.now }
@@ -317,8 +317,8 @@ impl LiveCells<LAST_GENERATION> {
         Cursor::of(&self.placed)
     }
 
-    /// Removes each live dot of a context that isn't live there, and spends its id. The list of ids by dots is walked as a
-    /// whole, and both lists are if a dot is removed. Exists only for the last generation of sets, `LAST_GENERATION`.
+    /// Removes each live dot of a context that isn't live there, and spends its id. Walks the list of ids by dots, and then
+    /// both lists if a dot was removed. Exists only for the last generation of sets, `LAST_GENERATION`.
     pub fn thin(&mut self, known: &Context, there: &Self)
         ensures thinned { IsThinned (dead_there known.now.dots there.now.live) self.old self.new }
         ensures few { map.len self.new.live ≤ map.len self.old.live }
@@ -334,8 +334,9 @@ impl LiveCells<LAST_GENERATION> {
         Dots::of(self.index(), member)
     }
 
-    /// The row of a member with a live dot: each field is that of the greatest stamp over its live dots, for equal stamps
-    /// that of the least dot, and its default if none is set. Exists only for the last generation of sets, `LAST_GENERATION`.
+    /// The row of a member, or `None` if no dot is live with it. Each field is that of the greatest stamp over its live dots,
+    /// for equal stamps that of the least dot, and its default if none is set. Exists only for the last generation of sets,
+    /// `LAST_GENERATION`.
     pub fn row(&self, member: &Member) -> Option<Row<'_>>
         ensures { option_map row_view result ≡ row_of (view_of self.now.live) member.now }
     {

@@ -19,7 +19,8 @@ struct LiveRun<'a> {
 }
 
 impl<'a> LiveRun<'a> {
-    // Advances by `step` places, if the dots up to there are of the run. Otherwise the end of the run is before that place.
+    // Advances by `step` places and returns true, if the dot there is of the run. Otherwise notes that the run ends before
+    // that place, and returns false. No contract says which; either way fewer places are left to search.
     fn go(&mut self, step: usize) -> bool
         requires some { 0 < step }
         requires within { step < self.old.past - self.old.last }

@@ -63,8 +63,8 @@ pub(crate) fn list_members<const LAST: u32>(cells: &PlacedCells<LAST>, members: 
     sort_members(cells, members);
 }
 
-// Merges sorted ids into other sorted ids, in room that is there. Works from the back, and stops if none of the former is
-// left, so that nothing before them is read.
+// Merges sorted ids into other sorted ids, in room that is there. No id of one list ties with one of the other. Works
+// from the back, and stops if none of `others` is left, so that nothing before them is read.
 pub(crate) fn merge_members<const LAST: u32>(
     cells: &PlacedCells<LAST>,
     own: &mut Devector<CellId>,
@@ -93,8 +93,9 @@ pub(crate) fn merge_members<const LAST: u32>(
     }
 }
 
-// The id that the cell of an id has in a copy. Its dot is first looked for at the place of the id's index: it is there if
-// cells were added in the order of their dots and none was removed, as in a set that was decoded or copied.
+// The id that the cell of an id has in a copy; `None` only if the id has no cell. Its dot is first looked for at the
+// place of the id's index: it is there if cells were added in the order of their dots and none was removed, as in a set
+// that was decoded or copied.
 fn id_in<const LAST: u32>(
     index: MemberIndex<'_, LAST>,
     id: CellId,
@@ -111,7 +112,8 @@ fn id_in<const LAST: u32>(
     }
 }
 
-// The ids that the cells of an index have in a copy. Fails only when out of memory.
+// The ids that the cells of an index have in a copy of the cells, in the order of the index. Fails only when out of
+// memory.
 pub(crate) fn copy_members<const LAST: u32>(
     alloc: Global,
     index: MemberIndex<'_, LAST>,

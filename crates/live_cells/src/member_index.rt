@@ -26,7 +26,7 @@ pub(crate) struct MemberIndex<'a, const LAST: u32> {
     ghost indexed: { AreIndexed cells.now ids.now } by { indexed-prop cells.now ids.now },
 }
 
-// Whether the cell of an id lies before another one.
+// Whether the cell of an id lies before another one; false if it has none.
 fn lies_before<const LAST: u32>(cells: &PlacedCells<LAST>, id: CellId, cell: &LiveDot) -> bool
     ensures { result
         ≡ option_map_or (λ c. is_lt (listed_cmp (listing c) (listing cell.now)))
@@ -38,7 +38,7 @@ fn lies_before<const LAST: u32>(cells: &PlacedCells<LAST>, id: CellId, cell: &Li
     }
 }
 
-// Whether the cell of an id is of a member that lies before another one.
+// Whether the cell of an id is of a member that lies before another one; false if it has none.
 fn is_below<const LAST: u32>(cells: &PlacedCells<LAST>, id: CellId, member: &Member) -> bool
     ensures { result
         ≡ option_map_or (λ c. is_lt (member_cmp c.member member.now))
@@ -50,7 +50,7 @@ fn is_below<const LAST: u32>(cells: &PlacedCells<LAST>, id: CellId, member: &Mem
     }
 }
 
-// Whether the cell of an id is of a member that doesn't lie after another one.
+// Whether the cell of an id is of a member that doesn't lie after another one; false if it has none.
 fn is_upto<const LAST: u32>(cells: &PlacedCells<LAST>, id: CellId, member: &Member) -> bool
     ensures { result
         ≡ option_map_or (λ c. is_le (member_cmp c.member member.now))
@@ -62,7 +62,7 @@ fn is_upto<const LAST: u32>(cells: &PlacedCells<LAST>, id: CellId, member: &Memb
     }
 }
 
-// Whether the cell of an id is of a queue with a lesser number.
+// Whether the cell of an id is of a queue with a lesser number; false if it has none.
 fn is_of_lesser_queue<const LAST: u32>(cells: &PlacedCells<LAST>, id: CellId, queue: u16) -> bool
     ensures { result
         ≡ option_map_or (λ c. is_passed queue None c.member) (map.get cells.now.held id) false }
@@ -74,7 +74,7 @@ fn is_of_lesser_queue<const LAST: u32>(cells: &PlacedCells<LAST>, id: CellId, qu
 }
 
 impl<'a, const LAST: u32> MemberIndex<'a, LAST> {
-    // How many ids have cells that lie before another one.
+    // The place of a cell in the index: the number of ids whose cells lie before it. It is found by bisection.
     pub(crate) fn place_for(self, cell: &LiveDot) -> usize
         ensures { IsPlaceFor (listed_at self.entry.cells.now.held self.entry.ids.now)
             (listing cell.now) result }
@@ -89,7 +89,8 @@ impl<'a, const LAST: u32> MemberIndex<'a, LAST> {
         )
     }
 
-    // The place of the first id whose cell is of this member or a later one. It is found by bisection.
+    // The place of the first id whose cell is of this member or a later one, or the end of the index. It is found
+    // by bisection.
     fn place_of(self, member: &Member) -> usize
         ensures within { result ≤ length self.entry.ids.now }
         ensures first { IsPartitionPoint (λ l. is_lt (member_cmp l.member member.now) ≡ true)
@@ -154,7 +155,7 @@ impl<'a, const LAST: u32> MemberIndex<'a, LAST> {
         is_upto(self.cells, members[place], member)
     }
 
-    // The number of ids before those of a queue. They are found by bisection.
+    // The number of ids of queues with lesser numbers. It is found by bisection.
     pub(crate) fn place_of_queue(self, queue: u16) -> usize
         ensures reached { IsReached queue (listed_at self.entry.cells.now.held self.entry.ids.now)
             result }
@@ -173,7 +174,7 @@ impl<'a, const LAST: u32> MemberIndex<'a, LAST> {
 }
 
 impl<'a> MemberIndex<'a, LAST_GENERATION> {
-    // The cell of the id at a place that a walk over a queue has reached, where it is of the queue.
+    // The cell of the id at a place that a walk over a queue has reached; `None` if no id of the queue is left.
     pub(crate) fn next_cell(self, queue: u16, place: usize) -> Option<&'a LiveDot>
         requires { IsReached queue (listed_at self.cells.now.held self.ids.now) place }
         ensures some { IfSome result (λ cell.

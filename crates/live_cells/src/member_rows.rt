@@ -14,7 +14,7 @@ use crate::places::LAST_GENERATION;
 use dots::Member;
 use op_arena::CellId;
 
-// The latest registers of the cells of ids, where one has a cell.
+// The registers of the latest stamps over the cells of ids; `None` if no id has a cell.
 fn latest_in<'a, const LAST: u32>(
     cells: &'a PlacedCells<LAST>,
     ids: &[CellId],
@@ -31,7 +31,7 @@ fn latest_in<'a, const LAST: u32>(
     latest
 }
 
-// The row that the cells of ids show together, where one has a cell.
+// The row that the cells of ids show together; `None` if no id has a cell.
 pub(crate) fn row_over<'a, const LAST: u32>(
     cells: &'a PlacedCells<LAST>,
     ids: &[CellId],
@@ -44,7 +44,7 @@ pub(crate) fn row_over<'a, const LAST: u32>(
     Some(latest.row())
 }
 
-// The row of a member, where it has a live dot.
+// The row of a member; `None` if it has no live dot.
 pub(crate) fn row_in<'a>(
     index: MemberIndex<'a, LAST_GENERATION>,
     member: &Member,

@@ -10,8 +10,8 @@ use crate::live_dot::LiveDot;
 use crate::placed::Placed;
 use op_arena::{Arena, CellId};
 
-// Moves the cells of ids, in order, into room that is there. Each id is replaced by the new id of its cell, which is listed with
-// its dot at the same place of a list of the same length.
+// Moves the cells of distinct ids from `others` to `cells`, in order, into room that is there. Each id is replaced by the new id
+// of its cell, which is listed with its dot at the same place of a list of the same length.
 pub(crate) fn move_cells<const LAST: u32>(
     cells: &mut Arena<LiveDot, LAST>,
     others: &mut Arena<LiveDot, LAST>,

@@ -61,7 +61,8 @@ impl<const LAST: u32> Model for PlacedCells<LAST> {
     ghost invariant = { λ p. ArePlaced p.dots.items p.cells.held p.cells.spent };
 }
 
-// Joins the fields of the cell of an id with others, where it is held.
+// Joins the fields of the cell of an id with others that agree with them. If the id has no cell the cells stay, though no
+// contract says this.
 fn join_held<const LAST: u32>(cells: &mut Arena<LiveDot, LAST>, id: CellId, fields: &Fields)
     requires { (cell : live_dot) → map.get cells.old.held id ≡ Some cell
         → FieldsAgree cell.fields fields.now }
@@ -92,12 +93,12 @@ impl<const LAST: u32> PlacedCells<LAST> {
         }
     }
 
-    // The allocator that it grows with.
+    // The allocator that it grows with. No contract says which it is.
     pub(crate) fn allocator(&self) -> Global {
         self.dots.allocator()
     }
 
-    // The number of placed dots.
+    // The number of placed dots: with the retired places, at most 1,048,576.
     pub(crate) fn len(&self) -> usize
         ensures value { result ≡ length self.now.dots }
         ensures limit { retired_of LAST self.now.spent + result ≤ most_places }
@@ -135,7 +136,7 @@ impl<const LAST: u32> PlacedCells<LAST> {
         }
     }
 
-    // The place of a dot, or, if it isn't placed, the place where it would be inserted.
+    // `Ok` with the place of a dot or, if it isn't placed, `Err` with the place where it would be inserted.
     pub(crate) fn find(&self, dot: Dot) -> Result<usize, usize>
         ensures found { IfOk result (IsCellAt (cells_of self.now) dot) }
         ensures missed { IfErr result (IsGap (cells_of self.now) dot) }
@@ -144,7 +145,8 @@ impl<const LAST: u32> PlacedCells<LAST> {
         self.find_from(self.dots.len(), dot)
     }
 
-    // The place of a dot, or, if it isn't placed, the place where it would be inserted. A guess is tried first.
+    // `Ok` with the place of a dot or, if it isn't placed, `Err` with the place where it would be inserted. A guess is tried
+    // first.
     pub(crate) fn find_from(&self, guess: usize, dot: Dot) -> Result<usize, usize>
         ensures found { IfOk result (IsCellAt (cells_of self.now) dot) }
         ensures missed { IfErr result (IsGap (cells_of self.now) dot) }
@@ -185,7 +187,9 @@ impl<const LAST: u32> PlacedCells<LAST> {
         self.cells.get(id)
     }
 
-    // Makes room for `more` more dots. `Full` exactly where there can't be as many places, and then nothing has grown.
+    // Makes room for `more` more dots. Only room changes. Errors, in order: 1 `Full`, exactly where the dots, the retired
+    // places and `more` together are over 1,048,576; 2 `Memory`, never if there is room; after it there may be more room
+    // than before.
     pub(crate) fn reserve(&mut self, more: usize) -> Result<(), ArenaFault>
         ensures room { OnOk result (length self.old.dots + more ≤ self.new.room) }
         ensures full { (result ≡ Err ArenaFault.Full)
@@ -207,7 +211,8 @@ impl<const LAST: u32> PlacedCells<LAST> {
         }
     }
 
-    // Inserts the cell of a dot that isn't placed at its place, in room that is there.
+    // Inserts the cell of a dot that isn't placed, at the place that `find` gives for it, in room that is there. Returns its
+    // id, which no cell had before.
     #[inline(always)]
     pub(crate) fn insert(&mut self, place: usize, cell: LiveDot) -> CellId
         requires gap { IsGap (cells_of self.old) cell.dot place }
@@ -231,7 +236,7 @@ impl<const LAST: u32> PlacedCells<LAST> {
         id
     }
 
-    // Removes the cell at a place.
+    // Removes the dot at a place, and returns its cell. Its id is spent. Room falls by at most one.
     pub(crate) fn remove(&mut self, place: usize) -> LiveDot
         requires { place < length self.old.dots }
         ensures value { (d : live_dot) → result ≡ slice_index_or (cells_of self.old) place d }
@@ -248,8 +253,8 @@ impl<const LAST: u32> PlacedCells<LAST> {
         self.cells.take(placed.id).unwrap()
     }
 
-    // Removes the placed dots of a context that aren't live there. The list of dots is walked twice: first cells are freed,
-    // then the dots without a cell are removed.
+    // Removes the placed dots of a context that aren't live at the cursor `there`, and spends their ids. Walks the list of
+    // dots to free their cells, and, if it freed one, again to remove the dots without a cell.
     pub(crate) fn thin(&mut self, known: &Context, there: Cursor<'_>)
         ensures freed { AreFreed self.old.dots self.old.held self.old.spent self.new.held
             self.new.spent }
@@ -283,7 +288,7 @@ impl<const LAST: u32> PlacedCells<LAST> {
         join_held(&mut self.cells, id, fields);
     }
 
-    // A copy of the cells, in a new arena. Fails only when out of memory.
+    // A copy of the cells, in a new arena, with ids of their own. Fails only when out of memory.
     pub(crate) fn copy(&self) -> Result<Self, Memory>
         ensures cells { IfOk result (λ copy. cells_of copy ≡ cells_of self.now) }
         ensures spent { IfOk result (λ copy. copy.spent ≡ set.empty) }
@@ -299,8 +304,9 @@ impl<const LAST: u32> PlacedCells<LAST> {
         Ok(copy)
     }
 
-    // Places the dots of others, none of which is placed here, in room that is there. Their cells are moved, in the order of
-    // the ids of their index; each of these ids is replaced by the new id of its cell. Takes no memory.
+    // Places the dots of others, none of which is placed here, in room that is there. Their cells are moved in the order of
+    // `members`, which lists the ids of all of them; each of these ids is replaced by the new id of its cell. Takes no
+    // memory.
     pub(crate) fn append(&mut self, others: Self, members: &mut Vec<CellId>)
         requires index { AreIndexed others members.old.items }
         requires apart { (id : Id) (cell : live_dot) → map.get others.held id ≡ Some cell

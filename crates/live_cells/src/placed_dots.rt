@@ -66,7 +66,8 @@ impl<'a> PlacedDots<'a> {
         self.list[place].dot < dot
     }
 
-    // Whether a place is that of a dot: exactly the dots before it precede the dot.
+    // Whether a place is that of a dot: exactly the dots before it precede the dot. No contract says what
+    // follows if it is false.
     fn is_place(self, place: usize, dot: Dot) -> bool
         ensures within { result ≡ true → place ≤ length self.entry.list.now }
         ensures before { result ≡ true

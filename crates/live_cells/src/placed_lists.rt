@@ -6,8 +6,8 @@ ghost use Rattle.live_cells.specs.Merges.{AreUntied, placed_cmp};
 use crate::placed::Placed;
 use devector::Devector;
 
-// Merges a sorted list into a sorted list, in room that is there. Works from the back, and stops if none of the others is
-// left, so that nothing before them is read.
+// Merges a sorted list into another, in room that is there. They have no dot in common. Works from the back, and stops
+// if none of `others` is left, so that nothing before them is read.
 pub(crate) fn merge_dots(own: &mut Devector<Placed>, others: &[Placed])
     requires own { IsStrictlySortedBy placed_cmp own.old.items }
     requires others { IsStrictlySortedBy placed_cmp others.now }

@@ -38,7 +38,7 @@ impl<'a> Rows<'a> {
     ghost use Rattle.live_cells.specs.PlacedStates.{cells_of};
     ghost use Rattle.live_cells.specs.ShownRows.{cells_view, rows_after};
 
-    // The rows of a queue, by the index of members.
+    // All rows of a queue, from its first place in the index of members.
     pub(crate) fn of(index: MemberIndex<'a, LAST_GENERATION>, queue: u16) -> Rows<'a>
         ensures { result ≡ rows_after (cells_view (cells_of index.entry.cells.now)) queue None }
     {

@@ -35,7 +35,7 @@ impl<const LAST: u32> Model for TakenCells<LAST> {
 }
 
 impl<const LAST: u32> TakenCells<LAST> {
-    /// The cell of the first dot that is left, if there is one.
+    /// Takes the cell of the first dot that is left; `None` if none is left.
     pub fn take_first(&mut self) -> Option<LiveDot>
         ensures none { result ≡ None → self.old ≡ [] }
         ensures ended { result ≡ None → self.new ≡ [] }

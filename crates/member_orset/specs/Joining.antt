@@ -44,7 +44,7 @@ abbrev pub IsTold : map.FinMap dot_cmp Holding → List (Dot × Holding) → Boo
 IsTold live entries true = EntriesAgree live entries
 IsTold live entries false = Clash live entries
 
--- whether a dot is in a run and not live there
+-- whether a dot is in a run and not live on the other side
 abbrev pub dead_in_run : Run → map.FinMap dot_cmp Holding → Dot → Bool
 dead_in_run run there dot = in_run dot run && not (map.contains_key there dot)
 

@@ -134,11 +134,11 @@ ConditionsInConflict (Some (Live m f)) None = ⊥
 ConditionsInConflict (Some Dead) y = ⊥
 ConditionsInConflict None y = ⊥
 
--- the number of live dots after one more, which may be known already
+-- the number of live dots after one more is asserted: a known one, live or dead, adds none
 abbrev pub live_with : ℕ → Bool → ℕ
 live_with live known = if known then live else live + 1
 
--- the number of live dots once a dot is live that may be known already
+-- the number of live dots once a dot is asserted, if its conditions agree
 abbrev pub cells_with : Members → Dot → ℕ
 cells_with s dot = live_with (map.len s.live) (set.contains s.known dot)
 

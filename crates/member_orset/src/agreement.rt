@@ -16,7 +16,8 @@ pub(crate) fn is_same_member(member: &Member, other: &Member) -> bool
     *member == *other
 }
 
-// Whether a dot can be joined with this member and these fields, if it is live.
+// Whether a dot can be joined with this member and these fields, by the cell that it has
+// if it is live. True if it has none.
 pub(crate) fn can_hold(held: Option<Cell<'_>>, member: &Member, fields: &Fields) -> bool
     ensures agree { IsTrue result
         ↔ HoldingsAgree (option_map cell_read held.entry) (member.now, fields.now) }
@@ -29,7 +30,8 @@ pub(crate) fn can_hold(held: Option<Cell<'_>>, member: &Member, fields: &Fields)
     }
 }
 
-// Whether each dot that is live on both sides can be joined.
+// Whether each dot that is live on both sides can be joined: it has one member, and no
+// field of one stamp and two values.
 pub(crate) fn cells_agree(
     cells: &LiveCells<LAST_GENERATION>,
     others: &LiveCells<LAST_GENERATION>,

@@ -15,7 +15,8 @@ use dots::{Dot, MOST_COUNT, MOST_RUNS, SiteId};
 use live_cells::PlacedDots;
 use std::alloc::Global;
 
-// The dots of a site that a context has and that aren't live.
+// The dots of a site that a context has and that aren't live. Errors, in order: 1 `RunsFull`,
+// exactly where they make more than 65,536 runs; 2 `Memory`.
 pub(crate) fn gather_dead(
     alloc: Global,
     context: &Context,

@@ -12,7 +12,9 @@ use causal_context::{Context, ContextFault};
 use dots::{Dot, MOST_LIVE, MOST_RUNS};
 use live_cells::{LAST_GENERATION, LiveCells, LiveDot};
 
-// Adds a dot to the known dots.
+// Adds a dot to the known dots. A fault leaves them as they are. Errors, in order: 1 `RunsFull`,
+// exactly where they would make more than 65,536 runs; 2 `Memory`, never for a known dot, nor if
+// there is room for one more run.
 pub(crate) fn learn(context: &mut Context, dot: Dot) -> Result<(), JoinFault>
     ensures ok { OnOk result (context.new.dots ≡ set.insert context.old.dots dot) }
     ensures full { (result ≡ Err JoinFault.RunsFull)
@@ -31,7 +33,8 @@ pub(crate) fn learn(context: &mut Context, dot: Dot) -> Result<(), JoinFault>
     }
 }
 
-// The fault of a dot that can't be known and live, if there is no memory for its cell.
+// The fault for a dot for whose cell there is no memory: `RunsFull` exactly where the known dots
+// with it make more than 65,536 runs, and otherwise `Memory`.
 fn fault_without_room(context: &Context, dot: Dot) -> JoinFault
     ensures full { (result ≡ JoinFault.RunsFull)
         ↔ (MOST_RUNS < run_count (set.insert context.now.dots dot)) }
@@ -44,7 +47,7 @@ fn fault_without_room(context: &Context, dot: Dot) -> JoinFault
     JoinFault::Memory
 }
 
-// Whether the number of live dots is within its limit once a dot is live that may be known already.
+// Whether there are at most 16,384 live dots once a dot is asserted. A known dot adds none.
 pub(crate) fn has_place(context: &Context, cells: &LiveCells<LAST_GENERATION>, dot: Dot) -> bool
     ensures there { IsTrue result
         ↔ (live_with (map.len cells.now.live) (set.contains context.now.dots dot) ≤ MOST_LIVE) }
@@ -55,7 +58,10 @@ pub(crate) fn has_place(context: &Context, cells: &LiveCells<LAST_GENERATION>, d
     live < MOST_LIVE || live == MOST_LIVE && context.contains(dot)
 }
 
-// Makes an unknown dot known and live.
+// Makes an unknown dot known and live; its caller has tested the limit of live dots. A fault drops
+// the cell and changes only room. Errors, in order: 1 `RunsFull`, exactly where the known dots
+// would make more than 65,536 runs; 2 `Memory`, never if there is room for one more live dot and
+// one more run.
 pub(crate) fn bring(
     context: &mut Context,
     cells: &mut LiveCells<LAST_GENERATION>,

@@ -30,7 +30,8 @@ impl Gathered {
         }
     }
 
-    // Adds the dots of a run, which begin a run here or continue the last one.
+    // Adds the dots of a run. If it `begins` one here, the number of runs rises; otherwise it continues the last
+    // one. The first fault of the context is kept for `finish`; after it, runs are only counted.
     pub(crate) fn add(&mut self, run: Run, begins: bool)
         requires { self.old.runs < 2 ^ 60 }
         ensures gathered { (dots : set.FinSet dot_cmp)
@@ -48,7 +49,8 @@ impl Gathered {
         }
     }
 
-    // The context of the dots. `RunsFull` exactly where they have too many runs.
+    // The context of the dots. Errors, in order: 1 `RunsFull`, exactly where they make more than 65,536 runs; 2
+    // `Memory`.
     pub(crate) fn finish(self) -> Result<Context, ContextFault>
         ensures ok { (dots : set.FinSet dot_cmp)
             → IsGathered self dots

@@ -26,7 +26,7 @@ impl<'a> GivenDots<'a> {
         }
     }
 
-    // All dots of a site, perhaps with others: if they aren't sorted, all given dots.
+    // All dots of a site, perhaps with others: unless the given dots are several in order, all of them.
     fn of_site(self, site: SiteId) -> &'a [Dot]
         ensures { AreOfSite self.entry.list.now site result.now }
     {
@@ -55,7 +55,8 @@ impl<'a> GivenDots<'a> {
         greatest
     }
 
-    // If they are sorted, at most one dot: the first from `from` on, of any site. Otherwise all given dots.
+    // If the given dots are several in order, at most one: the first from `from` on, of any site. Otherwise all of
+    // them.
     fn next(self, from: Dot) -> &'a [Dot]
         ensures { AreNext self.entry.list.now from result.now }
     {

@@ -51,7 +51,7 @@ fn count_missing(dots: &[Placed], there: &mut Cursor<'_>) -> usize
     count
 }
 
-// The number of live dots that stay live if those are dead that are known there and not live.
+// The number of live dots that stay live in a join: all but those that are known there and not live there.
 pub(crate) fn count_kept(
     dots: PlacedDots<'_>,
     known_there: &Context,
@@ -128,7 +128,7 @@ fn drop_each(
 }
 
 // Removes the live dots of a context that aren't live there. If more than a few live dots are of its runs, all live dots are
-// walked once; otherwise each removed dot is searched for, and ids are moved for it.
+// walked; otherwise each removed dot is searched for, and ids are moved for it.
 pub(crate) fn drop_dead(
     cells: &mut LiveCells<LAST_GENERATION>,
     context: &Context,
@@ -145,7 +145,8 @@ pub(crate) fn drop_dead(
     }
 }
 
-// Joins a cell of the other side: its dot is joined if it is live here too, and stays dead if it is known here.
+// Joins a cell of the other side that agrees with the one here: its dot is joined if it is live here too, stays dead if it is dead
+// here, and becomes live, in room that is there, if it is unknown here.
 fn take_in(known: &Context, cells: &mut LiveCells<LAST_GENERATION>, cell: LiveDot)
     requires agree { HoldingsAgree (map.get cells.old.live cell.dot) (holding cell) }
     requires room { map.len cells.old.live + 1 ≤ cells.old.room }
@@ -161,7 +162,7 @@ fn take_in(known: &Context, cells: &mut LiveCells<LAST_GENERATION>, cell: LiveDo
     }
 }
 
-// Joins all cells of the other side one by one, in room that is there. Takes no memory.
+// Joins all cells of the other side, which agree with those here, one by one, in room that is there. Takes no memory.
 fn take_each(
     known: &Context,
     cells: &mut LiveCells<LAST_GENERATION>,
@@ -177,7 +178,7 @@ fn take_each(
     }
 }
 
-// Whether none of the dots is known.
+// Whether none of the dots is known. No contract says what follows if it is false.
 fn are_unknown(known: &Context, dots: &[Placed]) -> bool
     ensures { result ≡ true → All (λ p. set.contains known.now.dots p.dot ≡ false) dots.now }
 {
@@ -189,7 +190,7 @@ fn are_unknown(known: &Context, dots: &[Placed]) -> bool
     true
 }
 
-// Whether each of the dots is known.
+// Whether each of the dots is known. No contract says what follows if it is false.
 fn are_known(known: &Context, dots: &[Placed]) -> bool
     ensures { result ≡ true → All (λ p. set.contains known.now.dots p.dot ≡ true) dots.now }
 {
@@ -201,8 +202,8 @@ fn are_known(known: &Context, dots: &[Placed]) -> bool
     true
 }
 
-// Joins the fields of each dot that is live on both sides. Walks the dots of the other side once, in order; each is first looked
-// for here right after the last one.
+// Joins the fields of each dot that is live on both sides; they agree. The room for all stays unused. Walks the dots of the other
+// side once, in order; each is first looked for here right after the last one.
 fn join_live(cells: &mut LiveCells<LAST_GENERATION>, others: &LiveCells<LAST_GENERATION>)
     requires agree { EntriesAgree cells.old.live (map.entries others.now.live) }
     requires room { map.len cells.old.live + map.len others.now.live ≤ cells.old.room }
@@ -216,7 +217,8 @@ fn join_live(cells: &mut LiveCells<LAST_GENERATION>, others: &LiveCells<LAST_GEN
     }
 }
 
-// Joins the cells of the other side whose dots are known, so that only those with unknown dots are left there.
+// Joins the cells of the other side whose dots are known, so that only those with unknown dots are left there. Both sides agree,
+// and each dot that is live here is known.
 fn take_known(
     known: &Context,
     cells: &mut LiveCells<LAST_GENERATION>,
@@ -241,9 +243,9 @@ fn take_known(
     }
 }
 
-// Joins all cells of the other side, in room that is there. Moves the new ones, and takes no memory. If there are more than a few,
-// the known ones are joined in order, and the lists of ids are merged once for the new ones; otherwise each is searched for, and
-// ids are moved for each new one.
+// Joins all cells of the other side, in room that is there. Both sides agree, and each dot that is live here is known. Moves the
+// new cells, and takes no memory. If there are more than a few, the known ones are joined in order, and the lists of ids are
+// merged once for the new ones; otherwise each is searched for, and ids are moved for each new one.
 pub(crate) fn take_all(
     known: &Context,
     cells: &mut LiveCells<LAST_GENERATION>,
@@ -263,7 +265,9 @@ pub(crate) fn take_all(
     }
 }
 
-// Makes room for the runs of another context, and for `more` more live dots. Nothing else changes.
+// Makes room for the runs of another context, and for `more` more live dots. Nothing else changes. Errors, in order: 1 `RunsFull`,
+// exactly where the dots of both contexts make more than 65,536 runs; 2 `Memory`, also if no places are left for the cells, and
+// never if there is room for both.
 pub(crate) fn make_room(
     context: &mut Context,
     cells: &mut LiveCells<LAST_GENERATION>,

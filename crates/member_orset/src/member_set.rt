@@ -87,7 +87,8 @@ impl MemberSet {
         }
     }
 
-    // The set of a context and of live dots.
+    // The set of a context and of live dots, which are within the limits that `MemberSet` states,
+    // with at most as many spent ids as dead dots.
     pub(crate) fn of(context: Context, cells: LiveCells<LAST_GENERATION>) -> MemberSet
         requires { IsSet context.dots cells.live cells.spent }
         ensures known { result.known ≡ context.dots }
@@ -153,8 +154,8 @@ impl MemberSet {
         self.cells.dots(member)
     }
 
-    /// The row of a member with a live dot: each field is that of the greatest stamp over its live dots, for equal stamps
-    /// that of the least dot, and its default if none is set (RR-7506's last-writer registers).
+    /// The row of a member, or `None` if no dot is live with it. Each field is that of the greatest stamp over its live
+    /// dots, for equal stamps that of the least dot, and its default if none is set (RR-7506's last-writer registers).
     pub fn row(&self, member: &Member) -> Option<Row<'_>>
         ensures { option_map row_view result ≡ row_of (dot_view_of self.now) member.now }
     {
@@ -299,7 +300,8 @@ impl MemberSet {
         )
     }
 
-    /// Whether another set can be absorbed: the two agree, the join is small enough, and there is room.
+    /// Whether another set can be absorbed: the two agree, the join is small enough, and there is room for the runs of both
+    /// and for the live dots of both.
     pub fn prepared(&self, other: &MemberSet) -> bool
         ensures { IsTrue result ↔ IsPrepared self.now other.now }
     {

@@ -17,6 +17,7 @@ use live_cells::PlacedDots;
 use std::alloc::Global;
 
 // The range of the sites of the given dots: from the first number on, and below the second.
+// It is empty if there are none.
 fn sites_of(given: &[Dot]) -> (u16, u16)
     ensures first { All (λ d. result.0 ≤ d.site) given.now }
     ensures end { All (λ d. d.site < result.1) given.now }
@@ -34,6 +35,8 @@ fn sites_of(given: &[Dot]) -> (u16, u16)
 }
 
 // The given dots, with all that are dead here and older than a given one of their site.
+// Errors, in order: 1 `RunsFull`, exactly where they make more than 65,536 runs; 2
+// `Memory`.
 pub(crate) fn gather(
     alloc: Global,
     context: &Context,

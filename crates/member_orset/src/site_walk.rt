@@ -189,8 +189,9 @@ impl<'a> SiteWalk<'a> {
     }
 }
 
-// Gathers the dots of a site that are given or dead, up to a last one. Walks the site's runs and live dots once, from the
-// first ones on, which are found by bisection.
+// Adds the dots of a site that are given or dead, up to a last one, to the gathered ones, which are of earlier sites and
+// make at most 2^41 runs for each. Walks the site's runs and live dots once, from the first ones on, which are found by
+// bisection.
 pub(crate) fn gather_site(
     gathered: &mut Gathered,
     runs: KnownRuns<'_>,

@@ -8,6 +8,6 @@ use Rattle.op_arena.specs.contracts.places.Places.{the_row}
 abbrev pub with_value : {X : Type 0} → Places X → ℕ → X → Places X
 with_value places index value = record { first = places.first; slots = slice_set places.slots index (Some value) }
 
--- the places end with the last value after `r` in the one at `index`
+-- the places end with the last value that was written through `r` in the one at `index`
 abbrev pub lends_value : (R : RattleType) → MutBor (Places R.Denot) → ℕ → MutBor R.Denot → Fml
 lends_value R places index r = Lends (the_row R) R places r (with_value places.now index)

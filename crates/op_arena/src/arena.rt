@@ -94,7 +94,7 @@ impl<T, const LAST: u32> Arena<T, LAST> {
     /// Makes room for `n` more values. Nothing moves, and no id changes its meaning, also if it fails.
     ///
     /// Errors, in order: 1. `Full`, exactly where the values, the retired cells and `n` together are more than 1,048,576; 2.
-    /// `Memory`, after which there may be more room than before.
+    /// `Memory`, never if there is room; after it there may be more room than before.
     pub fn reserve(&mut self, n: u32) -> Result<(), ArenaFault>
         ensures held { self.new.held ≡ self.old.held }
         ensures spent { self.new.spent ≡ self.old.spent }
@@ -213,7 +213,8 @@ impl<T, const LAST: u32> Arena<T, LAST> {
         }
     }
 
-    // Removes and returns the value of `id`, which is held, and spends the id.
+    // Removes and returns the value of `id`, which is held, and spends the id. The cell is the next to be used, or is retired if the
+    // id is of generation `LAST`.
     #[inline(always)]
     fn take_held(&mut self, id: CellId) -> T
         requires { IsTrue (map.contains_key self.old.held id) }

@@ -48,6 +48,7 @@ fn drop_values<T: Drop>(places: &mut Places<T>, len: usize, capacity: usize)
 }
 
 impl<T: Drop> Drop for Chunk<T> {
+    // Drops the values from the front, and gives the memory back.
     fn drop(self) {
         let Chunk {
             mut places,
@@ -64,7 +65,8 @@ impl<T: Drop> Drop for Chunk<T> {
 impl<T> Chunk<T> {
     ghost use Rattle.op_arena.specs.ColumnLends.{lends_item};
 
-    // A chunk with memory for `capacity` values, and none yet.
+    // A chunk with memory for `capacity` values, and none yet. Fails when out of memory, or if no block
+    // can be that large.
     pub(crate) fn new(alloc: Global, capacity: usize) -> Result<Self, AllocError>
         ensures { IfOk result (λ c. c ≡ column [] capacity) }
     {

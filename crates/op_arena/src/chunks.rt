@@ -79,7 +79,8 @@ impl<T> Chunks<T> {
         self.capacity
     }
 
-    // Adds the next chunk, which is empty.
+    // Adds the next chunk, which is empty. Fails when out of memory, or if no block can be that large, and then
+    // adds none, though no contract says this.
     pub(crate) fn grow(&mut self) -> Result<(), AllocError>
         requires { self.old.capacity < 2 ^ 20 }
         ensures items { self.new.items ≡ self.old.items }
@@ -99,7 +100,8 @@ impl<T> Chunks<T> {
         Ok(())
     }
 
-    // Adds chunks until there is memory for `needed` values. Where memory runs out, chunks may have been added.
+    // Adds chunks until there is memory for `needed` values. Fails as `grow` does; then chunks may have been
+    // added.
     pub(crate) fn reserve(&mut self, needed: usize) -> Result<(), AllocError>
         requires { needed ≤ 2 ^ 20 }
         ensures items { self.new.items ≡ self.old.items }

@@ -51,7 +51,8 @@ unsafe impl<T, A: Allocator> Sync for Lease<T, A> {}
 impl<T> Places<T> {
     ghost use Rattle.op_arena.specs.RowLends.{lends_value};
 
-    // Memory for `count` places, all empty, and the lease: the right to give it back.
+    // Memory for `count` places, which one block can hold, all empty, and the lease: the right to give it
+    // back. Fails only when out of memory.
     pub(crate) fn add<A: Allocator>(
         alloc: &A,
         count: usize,
@@ -113,7 +114,8 @@ impl<T> Places<T> {
         unsafe { self.first.add(index).read() }
     }
 
-    // Gives the memory of the places, all empty, back to `alloc`.
+    // Gives the memory of the places, all `count` of them empty, back to `alloc`, by the lease that `add`
+    // gave with them.
     pub(crate) fn release<A: Allocator>(self, lease: Lease<T, A>, alloc: &A, count: usize)
         requires { (self.slots ≡ replicate count None) × (lease.first ≡ self.first)
             × (lease.count ≡ count) × (lease.alloc ≡ alloc.now) }

@@ -103,7 +103,7 @@ impl<T> Slot<T> {
         self.state.value_mut()
     }
 
-    // Gives a free cell a value, and returns the next free cell.
+    // Gives a free cell a value, and returns the index of the next free cell, if there is one.
     pub(crate) fn fill(&mut self, value: T) -> Option<u32>
         requires { IsFree self.old.state }
         ensures next { self.old.state ≡ State.Free result }

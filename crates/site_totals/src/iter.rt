@@ -22,6 +22,7 @@ impl<'a> Model for Iter<'a> {
 }
 
 impl<'a> Iter<'a> {
+    // An iterator over these entries.
     pub(crate) fn new(rows: &'a [Row]) -> Iter<'a>
         ensures { result ≡ rows.entry.now }
     {

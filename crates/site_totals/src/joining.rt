@@ -1,4 +1,4 @@
-// Joins two lists of entries: few others are searched for; otherwise both are walked once, in the order of their keys.
+// Joins two lists of entries: few others are searched for; otherwise both are walked, in the order of their keys.
 ghost use Rattle.std.specs.Prelude.{◌≡◌, ◌+◌, ◌-◌, ◌<◌, ◌≤◌, ◌∷◌, length, drop};
 ghost use Rattle.std.specs.Vec.{vec_capacity, vec_len};
 ghost use Rattle.general_lemmas.specs.SortedEntries.{IsRising};
@@ -9,7 +9,8 @@ use crate::few::{FEW_ROWS, absorb_searched, searched_count};
 use crate::rows::{Row, greater};
 use std::cmp::Ordering;
 
-// Which list has the least key that is left: `Less` for the first, `Greater` for the others.
+// Which list has the least key that is left: `Less` for the first, `Greater` for the others, `Equal` for both. If the
+// first has none left, `Greater`; if only the others have none, `Less`.
 fn compare_next(rows: &[Row], own: usize, others: &[Row], theirs: usize) -> Ordering
     requires own_within { own ≤ length rows.now }
     requires theirs_within { theirs ≤ length others.now }
@@ -100,7 +101,7 @@ fn merge(rows: &mut [Row], spare: usize, others: &[Row])
 }
 
 // Joins others into entries in place, in room that is there. Takes no memory. Few others are searched for, and for more
-// both are walked once.
+// both are walked twice.
 pub(crate) fn absorb_rows(rows: &mut Vec<Row>, others: &[Row])
     requires kept { IsKept rows.old.items }
     requires others_kept { IsKept others.now }

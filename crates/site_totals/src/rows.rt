@@ -17,7 +17,7 @@ use dots::{MOST_CALLS, QUEUES};
 // An entry: a key with its totals.
 pub(crate) type Row = (TotalKey, CallTotals);
 
-// The place of the key, or where it would be inserted.
+// `Ok` with the place of the key, or `Err` with the place where it would be inserted.
 pub(crate) fn search(rows: &[Row], key: TotalKey) -> Result<usize, usize>
     requires { IsRising key_cmp rows.now }
     ensures found { IfOk result (IsAt rows.now key) }
@@ -38,7 +38,7 @@ pub(crate) fn row_totals(rows: &[Row], key: TotalKey) -> CallTotals
 }
 
 // The totals of a key, no calls if it has no entry, and the place where it is or would be inserted. A guessed place is tried
-// first.
+// first. No contract says which place it is.
 pub(crate) fn row_totals_near(rows: &[Row], key: TotalKey, guess: usize) -> (CallTotals, usize)
     requires { IsRising key_cmp rows.now }
     ensures { result.0 ≡ row_totals rows.now key }
@@ -69,7 +69,8 @@ pub(crate) fn greater(left: CallTotals, right: CallTotals) -> CallTotals
     }
 }
 
-// Sets the totals of a key, in its entry or a new one.
+// Sets the totals of a key, in its entry or a new one. Fails only when out of memory for a new entry, and then changes
+// nothing.
 pub(crate) fn put(rows: &mut Vec<Row>, key: TotalKey, totals: CallTotals) -> Result<(), Memory>
     requires { IsRising key_cmp rows.old.items }
     ensures ok { OnOk result (rows.new.items ≡ map.put key_cmp key totals rows.old.items) }
@@ -92,7 +93,8 @@ pub(crate) fn put(rows: &mut Vec<Row>, key: TotalKey, totals: CallTotals) -> Res
     }
 }
 
-// Joins one entry: the greater of the present and these totals. Two zeros are no entry.
+// Joins one entry, within the limits of keys and totals: the greater of the present and these totals. Two zeros are no
+// entry. Fails only when out of memory for a new entry, and then changes nothing.
 pub(crate) fn join_one(rows: &mut Vec<Row>, key: TotalKey, totals: CallTotals) -> Result<(), Memory>
     requires kept { IsKept rows.old.items }
     requires limits { InLimits (single key totals) }
@@ -114,7 +116,8 @@ pub(crate) fn join_one(rows: &mut Vec<Row>, key: TotalKey, totals: CallTotals) -
     Ok(())
 }
 
-// Counts one more of these calls at a key, and returns the new total.
+// Counts one more of these calls at a key, and returns the new total. Errors, in order, each of which changes nothing: 1
+// `TotalFull`, exactly where the total is 1,000,000,000; 2 `Memory`, for a first entry without room.
 pub(crate) fn raise_one(rows: &mut Vec<Row>, key: TotalKey, calls: Calls) -> Result<u64, TotalFault>
     requires kept { IsKept rows.old.items }
     requires site { IsSite key.site }

@@ -79,7 +79,8 @@ impl Totals {
         sum
     }
 
-    // The totals of a site in a queue, with the place of the entry. A guessed place is tried first.
+    // The totals of a site in a queue, with the place of the entry. A guessed place is tried first. No
+    // contract says which place is returned.
     fn of_near(&self, site: SiteId, queue: u16, guess: usize) -> (CallTotals, usize)
         ensures value { result.0 ≡ totals_of self.now.entries site queue }
         ensures limit { (result.0.completed ≤ MOST_CALLS) × (result.0.abandoned ≤ MOST_CALLS) }
@@ -147,7 +148,7 @@ impl Totals {
     }
 
     /// Reserves room for every entry that only the others have, and changes no total. Fails only when out of
-    /// memory.
+    /// memory, never if `prepared` is true.
     pub fn prepare(&mut self, other: &Totals) -> Result<(), Memory>
         ensures ok { OnOk result (HasRoomFor self.new other.now.entries) }
         ensures unchanged { self.new.entries ≡ self.old.entries }
@@ -176,7 +177,7 @@ impl Totals {
     }
 
     /// Joins the others: each number becomes the greater of both. Fails only when out of memory, and then
-    /// changes no total.
+    /// changes no total; never if `prepared` is true.
     pub fn join(&mut self, other: &Totals) -> Result<(), Memory>
         ensures ok { OnOk result (self.new.entries ≡ join_of self.old.entries other.now.entries) }
         ensures err { OnErr result (self.new.entries ≡ self.old.entries) }
