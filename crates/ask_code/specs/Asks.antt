@@ -58,7 +58,7 @@ IsCommand (command.RingInUse queue interface ring) = (setting_code bit_code).IsG
 IsCommand (command.Completed queue) = name_code.IsGood queue
 IsCommand (command.Abandoned queue) = name_code.IsGood queue
 
--- the fault of bytes after a kind that has none
+-- bytes don't begin with the content of a command of this kind, and have this fault
 abbrev pub ContentFails : Kind → AskFault → List ℕ → Type 0
 ContentFails kind.Add fault bytes = add_code.Fails fault bytes
 ContentFails kind.Remove fault bytes = remove_code.Fails fault bytes
@@ -88,7 +88,7 @@ IsAsk ask = IsCommand ask.command × IsKeptAnswer ask.answer
 abbrev pub HasFault : AskFault → List ℕ → Type 0
 HasFault fault bytes = ask_code.Fails fault bytes ⊎ After ask_code (λ ask rest. (rest ≢ []) × (fault ≡ Trailing)) bytes
 
--- each of them is a byte
+-- each number of a list is a byte
 abbrev pub AreBytes : List ℕ → Type 0
 AreBytes bytes = All (λ b. b < 256) bytes
 

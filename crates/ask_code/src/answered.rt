@@ -14,8 +14,8 @@ pub struct AnsweredCommand {
 }
 
 impl AnsweredCommand {
-    /// Returns a copy of the command of an ask, with its answer. `None` for a status, and for the refusal `Memory`, which no store
-    /// keeps. Allocates nothing.
+    /// Returns a copy of the command of an ask, with its answer. `None` for a status or a report, and for the refusal `Memory`,
+    /// which no store keeps. Allocates nothing.
     pub fn of(ask: &Ask, answer: &Answer) -> Option<AnsweredCommand>
         ensures { (answered : AnsweredCommand)
             → (result ≡ Some answered) ↔ IsAnsweredStep answered ask.now answer.now }

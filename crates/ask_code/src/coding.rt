@@ -29,7 +29,7 @@ pub fn encode_ask(command: &Command, answer: Result<(), Refusal>) -> ArrayVec<u8
     out
 }
 
-// Reads a command and its answer, which must be all of the bytes.
+// Reads a command and its answer, which must be all of the bytes. The errors are those of `decode_ask`.
 fn read_ask(bytes: &[u8]) -> Result<AnsweredCommand, AskFault>
     ensures good { IfOk result (λ ask. IsAsk ask) }
     ensures spelled { IfOk result (λ ask. bytes.now ≡ ask_bytes ask) }

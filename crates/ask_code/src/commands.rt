@@ -33,7 +33,8 @@ fn kind_of(command: &Command) -> Kind
     }
 }
 
-// Writes what follows the kind of a setting.
+// Writes what follows the kind of a setting. There is room for the longest: 163 bytes, and
+// those of the value.
 fn put_setting<T: WrittenPart>(
     queue: &Option<QueueName>,
     interface: &Interface,
@@ -51,7 +52,7 @@ fn put_setting<T: WrittenPart>(
     value.put(out);
 }
 
-// Writes what follows the kind of a command.
+// Writes what follows the kind of a command. There is room for the longest: 329 bytes.
 fn put_content(command: &Command, out: &mut AskBytes)
     requires room { array_vec_len out.old + 329 ≤ MOST_ASK_BYTES }
     ensures written { out.new.items ≡ out.old.items ++ content_bytes command.now }
@@ -95,7 +96,22 @@ fn put_content(command: &Command, out: &mut AskBytes)
     }
 }
 
-// Reads what follows the kind of a command.
+// The add of these parts.
+fn add_of(parts: AddParts) -> Command
+    ensures { result ≡ Command.Add parts.0 parts.1.0 parts.1.1.0 parts.1.1.1.0 parts.1.1.1.1 }
+{
+    let (queue, (interface, (penalty, (paused, label)))) = parts;
+    Command::Add {
+        queue,
+        interface,
+        penalty,
+        paused,
+        label,
+    }
+}
+
+// Reads what follows the kind of a command. Fails with the fault of the first part that is at
+// fault; no contract says how far the reader is then.
 fn read_content(kind: Kind, reader: &mut Reader<'_>) -> Result<Command, AskFault>
     ensures kind { IfOk result (λ command. kind_of command ≡ kind) }
     ensures good { IfOk result (λ command. IsCommand command) }
@@ -103,17 +119,7 @@ fn read_content(kind: Kind, reader: &mut Reader<'_>) -> Result<Command, AskFault
     ensures fault { IfErr result (λ fault. ContentFails kind fault reader.old) }
 {
     match kind {
-        Kind::Add => {
-            let parts: AddParts = Part::read(reader)?;
-            let (queue, (interface, (penalty, (paused, label)))) = parts;
-            Ok(Command::Add {
-                queue,
-                interface,
-                penalty,
-                paused,
-                label,
-            })
-        }
+        Kind::Add => Ok(add_of(Part::read(reader)?)),
         Kind::Remove => {
             let (queue, interface): (QueueName, Interface) = Part::read(reader)?;
             Ok(Command::Remove { queue, interface })

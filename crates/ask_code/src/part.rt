@@ -17,7 +17,8 @@ pub(crate) trait Part: Drop + Sized {
     // Its code: the bytes of its values, and the faults of other bytes.
     ghost code: { Code Self };
 
-    // Reads it from the front of the bytes that are left.
+    // Reads it from the front of the bytes that are left. Fails with the fault that its code has
+    // for them; no contract says how far the reader is then.
     fn read(reader: &mut Reader<'_>) -> Result<Self, AskFault>
         ensures good { IfOk result (λ part. code.IsGood part) }
         ensures spelled { IfOk result (λ part. reader.old ≡ code.spell part ++ reader.new) }

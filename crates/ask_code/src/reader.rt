@@ -5,7 +5,8 @@ ghost use Rattle.ask_code.specs.Codes.{counted_code};
 use crate::AskFault;
 use std::marker::Model;
 
-// Bytes that are read in order. Contracts see those that are left.
+// Bytes that are read in order. Contracts see those that are left, except after a fault. A read
+// fails with `Truncated` exactly where too few bytes are left.
 #[derive(Drop)]
 pub(crate) struct Reader<'a> {
     left: &'a [u8],
@@ -34,7 +35,7 @@ impl<'a> Reader<'a> {
         self.left.is_empty()
     }
 
-    // One byte.
+    // Reads one byte.
     pub(crate) fn byte(&mut self) -> Result<u8, AskFault>
         ensures ok { IfOk result (λ byte. self.old ≡ byte ∷ self.new) }
         ensures err { IfErr result (λ fault. (self.old ≡ []) × (fault ≡ AskFault.Truncated)) }
@@ -48,7 +49,7 @@ impl<'a> Reader<'a> {
         }
     }
 
-    // A number of four bytes.
+    // Reads a number of four bytes.
     pub(crate) fn number4(&mut self) -> Result<u32, AskFault>
         ensures ok { IfOk result (λ number. self.old ≡ to_be_bytes w32 number ++ self.new) }
         ensures err { IfErr result
@@ -63,7 +64,7 @@ impl<'a> Reader<'a> {
         Ok(number)
     }
 
-    // Bytes with their length before them, one byte.
+    // Reads bytes with their length before them, one byte, and returns them without it.
     pub(crate) fn counted(&mut self) -> Result<&'a [u8], AskFault>
         ensures ok { IfOk result (λ bytes. self.old ≡ length bytes.now ∷ (bytes.now ++ self.new)) }
         ensures most { IfOk result (λ bytes. length bytes.now < 256) }

@@ -197,7 +197,7 @@ impl WrittenPart for Kind {
     }
 }
 
-// The number of an answer that a store keeps.
+// The number of an answer that a store keeps: any but `Memory`.
 pub(crate) fn answer_number(answer: Result<(), Refusal>) -> u8
     requires { IsKeptAnswer answer }
     ensures { result ≡ answer_number answer }

@@ -33,7 +33,7 @@ fn is_next(interface: &Interface, row: &Row<'_>, first: &Option<Offer>, tried: &
     !row.paused && comes_first(interface, row.penalty, first) && !tried.contains(interface)
 }
 
-// The first of the offers of rows, without the interfaces that were tried.
+// The first of the offers of rows, without the interfaces that were tried. `None` if there is none.
 pub(crate) fn first_offer(rows: Rows<'_>, tried: &[Interface]) -> Option<Offer>
     ensures { result ≡ first_of (offers_of tried.now rows.entry) }
 {

@@ -29,7 +29,7 @@ use replica::Replica;
 /// exactly if there is no such member.
 ///
 /// Takes no memory, and changes nothing. Visits each row once, and the tried ones for each row that isn't paused and precedes
-/// the rows so far; they may be in any order, and may repeat.
+/// the first offer so far; they may be in any order, and may repeat.
 ///
 /// Fails only with `NoSuchQueue`, exactly where the queue isn't in the list.
 pub fn offer(

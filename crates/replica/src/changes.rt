@@ -24,15 +24,15 @@ use member_orset::{MemberSet, SetBuilder};
 use site_totals::Totals;
 use std::alloc::Global;
 
-// A change that counts no calls.
+// The change with a builder's dots. It counts no calls.
 fn of_members(alloc: Global, builder: SetBuilder) -> Delta
     ensures { HasParts result builder.known (map.get builder.live) map.empty }
 {
     Delta::of(builder.finish(), Totals::new(alloc))
 }
 
-// The change of an add: the dot is live with this member and these fields, and the older dots that are dead are known with
-// it. Errors: `RunsFull`, exactly where these make more than 65,536 runs; `Memory`.
+// The change of an add: the dot is live with this member and these fields, of which one is set; the dead dots of its site
+// with lesser counts are known with it. Errors: `RunsFull`, exactly where these make more than 65,536 runs; `Memory`.
 pub(crate) fn added(
     alloc: Global,
     members: &MemberSet,
@@ -58,7 +58,9 @@ pub(crate) fn added(
     Ok(of_members(alloc, builder))
 }
 
-// Adds a cell for each of these dots to a builder: live with the member that it has in a set, and with these fields.
+// Adds a cell for each of these dots to a builder in which no dot is live: live with the member that it has in a set, and
+// with these fields, of which one is set. The dots are sorted, live in the set and known to the builder. Fails only when
+// out of memory; then some may have been added.
 fn write_all(
     builder: &mut SetBuilder,
     members: &MemberSet,
@@ -83,8 +85,9 @@ fn write_all(
     Ok(())
 }
 
-// The change of a write on sorted live dots: they are live with these fields alone, and the older dots that are dead are
-// known with them. Errors: `RunsFull`, exactly where these make more than 65,536 runs; `Memory`.
+// The change of a write on sorted live dots: they are live with these fields alone, of which one is set; the dead dots of
+// their sites with lesser counts than one of them are known with them. Errors: `RunsFull`, exactly where these make more
+// than 65,536 runs; `Memory`.
 pub(crate) fn written(
     alloc: Global,
     members: &MemberSet,
@@ -111,7 +114,7 @@ pub(crate) fn written(
     Ok(of_members(alloc, builder))
 }
 
-// The set of dots that are few enough.
+// The set of these dots, at most 16,384. Fails only when out of memory.
 fn context_of(alloc: Global, dots: &[Dot]) -> Result<Context, ContextFault>
     requires { length dots.now ≤ MOST_LIVE }
     ensures ok { IfOk result (λ context. context.dots ≡ set.from_list dots.now) }
@@ -156,7 +159,7 @@ fn calls_alone(calls: Calls, total: u64) -> CallTotals
     }
 }
 
-// The change of a count: the site has now counted `total` of these calls in the queue.
+// The change of a count: the site has now counted `total` of these calls in the queue. Fails only when out of memory.
 pub(crate) fn counted(
     alloc: Global,
     site: SiteId,

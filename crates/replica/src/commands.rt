@@ -93,7 +93,8 @@ impl Replica {
         }
     }
 
-    // The plan of a command.
+    // The plan of a command. Errors: those of `command`; but while numbers are left, `make` and not the plan finds that the state
+    // or the buffer would be too full.
     fn plan(&self, command: &Command) -> Result<Planned, Refusal>
         ensures { IsPlanned self.now (meaning_at self.now (change_of command.now)) result }
     {
@@ -126,7 +127,7 @@ impl Replica {
         }
     }
 
-    // The plan of one more of these calls of a queue.
+    // The plan of one more of these calls of a queue. Errors, in order: 1 `NoSuchQueue`; 2 `TotalFull`; 3 `Memory`.
     fn plan_count(&self, queue: &QueueName, calls: Calls) -> Result<Planned, Refusal>
         ensures { IsPlanned self.now (meaning_at self.now (CountCall queue.now calls)) result }
     {
@@ -147,7 +148,8 @@ impl Replica {
         }
     }
 
-    // The plan of an add of an interface to a queue.
+    // The plan of an add of an interface to a queue. Errors, in order: 1 `NoSuchQueue`; 2 `AlreadyThere`; 3 the result of
+    // `refuse_add`, if no count or no time is left; 4 `MembersFull`, if the operation has too many runs by itself; 5 `Memory`.
     fn plan_add(
         &self,
         queue: &QueueName,
@@ -186,7 +188,7 @@ impl Replica {
         }
     }
 
-    // The plan of a remove of an interface from a queue.
+    // The plan of a remove of an interface from a queue. Errors, in order: 1 `NoSuchQueue`; 2 `NotThere`; 3 `Memory`.
     fn plan_remove(&self, queue: &QueueName, interface: &Interface) -> Result<Planned, Refusal>
         ensures { IsPlanned self.now
             (meaning_at self.now (RemoveMember queue.now interface.now)) result }
@@ -217,7 +219,8 @@ impl Replica {
         }
     }
 
-    // The plan of a setting of one field in a queue, or in every one.
+    // The plan of a setting of one field in a queue, or, without one, in every queue. Errors, in order: 1 `NoSuchQueue`; 2 those
+    // of `plan_write`.
     fn plan_setting(
         &self,
         queue: &Option<QueueName>,
@@ -236,7 +239,9 @@ impl Replica {
         }
     }
 
-    // The plan of a setting of one field on the dots that are seen.
+    // The plan of a setting of one field on the interface's dots that the site sees, in the queue of this number or in every
+    // queue. Errors, in order: 1 `NotThere`, if it sees none; 2 the result of `refuse_write`, if no time is left; 3 `MembersFull`,
+    // if the operation has too many runs by itself. `Memory` may replace 2 and 3.
     fn plan_write(
         &self,
         queue: Option<u16>,

@@ -19,7 +19,9 @@ pub(crate) fn refusal_of_runs(fault: ContextFault) -> Refusal
 }
 
 impl Replica {
-    // The refusal of an add where the next count or the next time is past 2^40.
+    // The refusal of an add whose next count or next time is past 2^40: `MembersFull`, if the
+    // state, the buffer or the operation would have too many live dots or runs, else `Exhausted`.
+    // `Memory` may replace both.
     pub(crate) fn refuse_add(&self) -> Refusal
         ensures { IsToldOfAdds self.now result }
     {
@@ -40,8 +42,9 @@ impl Replica {
         Refusal::Exhausted
     }
 
-    // The refusal of a write on these dots, of which there is one at least, where the next time is
-    // past 2^40.
+    // The refusal of a write on these dots, at least one, whose next time is past 2^40:
+    // `MembersFull`, if the state, the buffer or the operation would have too many live dots or
+    // runs, else `Exhausted`. `Memory` may replace both.
     pub(crate) fn refuse_write(&self, dots: &[Dot]) -> Refusal
         requires some { 0 < length dots.now }
         requires few { length dots.now ≤ MOST_LIVE }

@@ -103,7 +103,8 @@ pub(crate) fn has_stamp_past(members: &MemberSet, site: SiteId, last: u64) -> bo
     false
 }
 
-// Whether a set of members has a dot of this site of a count past `count`, or a live dot with a field that was written later at this site than `time`.
+// Whether a set of members has a dot of this site of a count past `count`, or a live dot with a field that this site wrote
+// later than `time`.
 fn has_member_past(members: &MemberSet, site: SiteId, count: u64, time: u64) -> bool
     ensures { IsTrue result ↔ HasMemberPast site count time members.now }
 {
@@ -144,7 +145,9 @@ fn is_not_mine(replica: &Replica, delta: &Delta) -> bool
         || has_total_past(delta.totals(), replica.state().totals(), site)
 }
 
-// Whether a site may hear a delta; otherwise the fault.
+// Checks that a site may take a delta if the delta can be joined. Errors, in order: 1 `NoSuchQueue`, exactly where a live dot or
+// a total is of a queue that isn't in the list; 2 `NotMine`, exactly where the delta has a dot, a write or a call of the site
+// that the site hasn't made.
 pub(crate) fn hear(replica: &Replica, delta: &Delta) -> Result<(), TakeFault>
     ensures heard { OnOk result (MayHear replica.now delta.now) }
     ensures no_such_queue { (result ≡ Err TakeFault.NoSuchQueue)

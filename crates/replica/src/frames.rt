@@ -35,7 +35,8 @@ fn take_fault_of(fault: JoinFault) -> TakeFault
 impl Replica {
     /// Puts the buffer into a frame of this site, under its next number, and begins an empty buffer (RR-7506: what a site has made
     /// is sent to the others). Takes no memory. `None` exactly where the buffer is empty, and then no number is used. Fails only
-    /// with `Exhausted`, exactly where the buffer isn't empty and the site has made 2^40 frames. Both results change nothing.
+    /// with `Exhausted`, exactly where the buffer isn't empty and the site has made 2^40 frames. `None` and `Exhausted` change
+    /// nothing.
     pub fn cut(&mut self) -> Result<Option<Frame>, CutFault>
         ensures nothing { (result ≡ Ok None) ↔ IsEmpty self.old.pending }
         ensures frame { IfOk result (λ cut. IfSome cut (λ frame. HasCut self.old frame self.new)) }

@@ -7,7 +7,7 @@ use delta::Delta;
 use dots::{MOST_COUNT, MOST_LIVE, MOST_RUNS, SiteId};
 
 // Whether a delta would have too many live dots or runs, if the dots of a context were dead there, `more` others were live,
-// and one more dot of a site were known.
+// and the dot of a site and a count were known too. The count may be one past the greatest.
 pub(crate) fn is_full_with(
     delta: &Delta,
     dead: &Context,

@@ -8,7 +8,7 @@ ghost use Rattle.replica.specs.Fitting.{BothTakeIn, HasRoomFor, IsTooFullFor};
 use crate::Refusal;
 use delta::{Delta, JoinFault};
 
-// The refusal of a change that can't be joined; it is never in conflict.
+// The refusal of a change that can't be joined: `Memory` when out of memory, else `MembersFull`. No change is in conflict.
 fn refusal_of(fault: JoinFault) -> Refusal
     ensures full { fault ≡ JoinFault.CellsFull → result ≡ Refusal.MembersFull }
     ensures runs { fault ≡ JoinFault.RunsFull → result ≡ Refusal.MembersFull }
@@ -21,7 +21,8 @@ fn refusal_of(fault: JoinFault) -> Refusal
     }
 }
 
-// Makes room for a change in a delta that agrees with it.
+// Makes room for a change in a delta that agrees with it. What the delta says stays. Errors: `MembersFull`, if both
+// together have too many live dots or runs; `Memory`.
 fn make_room(delta: &mut Delta, change: &Delta) -> Result<(), Refusal>
     requires { DeltasAgree delta.old change.now }
     ensures ready { OnOk result (IsPrepared delta.new change.now) }
@@ -37,8 +38,9 @@ fn make_room(delta: &mut Delta, change: &Delta) -> Result<(), Refusal>
     }
 }
 
-// Joins a change that agrees with both into the state and the buffer. The change is copied once, and a refusal leaves both
-// as they were.
+// Joins a change that agrees with both into the state and the buffer. The change is copied once. Errors: `MembersFull`, if
+// the state or the buffer would have too many live dots or runs; `Memory`, which may replace it. A refusal drops the
+// change and leaves what both say.
 pub(crate) fn join_both(
     state: &mut Delta,
     pending: &mut Delta,

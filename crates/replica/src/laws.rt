@@ -50,12 +50,14 @@ pub fn older_dots_are_named()
     ensures { OlderAreNamed }
 {}
 
-/// A command has one meaning at knowledges of the same operations (RR-7506: the meaning doesn't depend on the order of delivery).
+/// A command has one meaning at consistent knowledges of the same operations, if the buffers too are consistent and have the same
+/// operations (RR-7506: the meaning doesn't depend on the order of delivery).
 pub fn a_command_means_the_same_at_the_same_operations()
     ensures { MeansTheSame }
 {}
 
-/// A command means the same at equal site views, of a knowledge or of a state that stands for it.
+/// A command means the same at site views that are alike, of a knowledge or of a state that stands for it, if their buffers have
+/// the same known and visible dots.
 pub fn a_command_means_the_same_at_views_that_are_alike()
     ensures { (r s buffer other : SiteView) → AreAlike r s → AreAsFull buffer other
         → MeansTheSameAlike r s buffer other }
@@ -159,8 +161,8 @@ pub fn refusals_stand_for_steps()
         → step state.site state.names s (Take k) ≡ (s, RunsFull) }
 {}
 
-/// If a site may take a delta, it may take each one that says the same; the same holds of deltas that it has taken. So to take a
-/// frame or a copy of it makes no difference.
+/// If a site may take a delta, it may take each one that says the same, and the take of the one is the take of the other. So it
+/// makes no difference whether a site takes a frame or a copy of it.
 pub fn what_says_the_same_is_taken_the_same()
     ensures may { (s : SiteState) (d e : DeltaState) → IsSame d e → MayTake s d → MayTake s e }
     ensures taken { (old new : SiteState) (d e : DeltaState)

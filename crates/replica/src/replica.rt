@@ -80,7 +80,7 @@ impl Replica {
         ensures none_retired { (result.state.members.retired ≡ 0) × (result.pending.members.retired ≡ 0) }
         ensures meaning { StandsFor result new_site }
     {
-        let _ = list.len(); // so that it is known what holds of them
+        let _ = list.len(); // exposes the list's limits to the proof
         Replica {
             site,
             list,
@@ -195,7 +195,10 @@ impl Replica {
         })
     }
 
-    // Makes a change: joins it into the state and the buffer, with these as the last count and time. A refusal changes nothing.
+    // Makes a change: joins it into the state and the buffer, with these as the last count and time. Its live dots are unknown to
+    // the state, or live there with the same members and older fields; its queues are in the list; its own stamps are of times up
+    // to `time`, and its own dots of counts up to `count`, which is the last count, or the next one if the change has that dot.
+    // Errors: `MembersFull` and `Memory`, as of `join_both`. A refusal changes nothing of what the site says.
     pub(crate) fn make(&mut self, change: Delta, count: u64, time: u64) -> Result<(), Refusal>
         requires { IsChangeOf self.old count time change }
         ensures made { IsMade self.old change count time self.new result }

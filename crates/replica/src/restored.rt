@@ -18,8 +18,7 @@ use delta::{Delta, JoinFault};
 use dots::{MOST_COUNT, SiteId};
 use std::alloc::Global;
 
-// Whether the own dots of a site in a delta are those of the counts up to this one. Takes no memory, like every reading function
-// here.
+// Whether a site's own dots in a delta are exactly those of the counts 1 to `last`. Takes no memory, like the other tests here.
 fn has_own_dots(delta: &Delta, site: SiteId, last: u64) -> bool
     ensures test { IsTrue result ↔ HasOwnDots site last delta.now }
     ensures limits { IsWithinLimits delta.now.members }
@@ -35,7 +34,7 @@ fn has_own_stamps(delta: &Delta, site: SiteId, last: u64) -> bool
     !has_stamp_past(delta.members(), site, last)
 }
 
-// Whether a delta is of queues whose numbers are below this one.
+// Whether all live dots and totals of a delta are of queues whose numbers are below this one.
 fn is_in_queues(delta: &Delta, queues: u16) -> bool
     ensures test { IsTrue result ↔ AreInQueues queues delta.now }
     ensures limits { IsTrue result → InLimits delta.now.totals.entries }
@@ -51,7 +50,8 @@ fn are_small(last: (u64, u64, u64)) -> bool
     last.0 <= MOST_COUNT && last.1 <= MOST_COUNT && last.2 <= MOST_COUNT
 }
 
-// Checks that parts keep the invariant of every replica; otherwise the fault.
+// Checks that parts keep the invariant of every replica. Errors, in order, each for the cause that `restored` names:
+// 1 `NumberTooLarge`; 2 `OwnDots`; 3 `OwnStamps`; 4 `NoSuchQueue`.
 fn check_parts(
     site: SiteId,
     list: &QueueList,
@@ -95,7 +95,8 @@ fn restore_fault(fault: JoinFault) -> RestoreFault
     }
 }
 
-// Joins a buffer into a state, and returns a copy of the buffer.
+// Joins a buffer into a state, and returns a copy of the buffer. Errors, in order: 1 `Conflict`, 2 `CellsFull` and 3 `RunsFull`, as
+// `Delta::prepare` has them; 4 `Memory`. An error drops the buffer and leaves what the state says; no contract says this.
 fn join_buffer(state: &mut Delta, pending: Delta) -> Result<Delta, RestoreFault>
     ensures joined { OnOk result (IsJoinOf state.old pending state.new) }
     ensures agree { OnOk result (DeltasAgree state.old pending) }
@@ -126,7 +127,7 @@ impl Replica {
     /// `OwnDots`: the site's own dots in the state aren't those of the counts from 1 to its last, or the buffer has an own dot past
     /// that; 3 `OwnStamps`: a live dot of either has a field that the site wrote later than its last time; 4 `NoSuchQueue`: a live
     /// dot or a total of either is of a queue that isn't in the list; 5 `Conflict`, 6 `CellsFull` and 7 `RunsFull`: the buffer
-    /// can't be joined into the state, as `Delta::prepare` has them; 8 `Memory`.
+    /// can't be joined into the state, as `Delta::prepare` has them; 8 `Memory`. An error drops all parts.
     pub fn restored(
         alloc: Global,
         site: SiteId,

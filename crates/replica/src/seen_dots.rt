@@ -12,7 +12,8 @@ use dots::{Dot, Interface, Member, Memory};
 use member_orset::MemberSet;
 use std::alloc::Global;
 
-// Appends the live dots of a member to others. Takes no memory if the member has none.
+// Appends the live dots of a member to others. Takes no memory if the member has none. Fails only when out
+// of memory; then some may have been appended.
 fn push_dots(list: &mut Vec<Dot>, members: &MemberSet, member: &Member) -> Result<(), Memory>
     ensures list { OnOk result
         (list.new.items ≡ list.old.items ++ dots_of (dot_view_of members.now) member.now) }
@@ -24,7 +25,8 @@ fn push_dots(list: &mut Vec<Dot>, members: &MemberSet, member: &Member) -> Resul
     Ok(())
 }
 
-// The live dots of an interface in the queues of the numbers below one, queue by queue.
+// The live dots of an interface in the queues whose numbers are below `queues`, queue by queue. Fails only
+// when out of memory, and never if there is no dot.
 fn dots_by_queue(
     alloc: Global,
     members: &MemberSet,
@@ -48,7 +50,8 @@ fn dots_by_queue(
     Ok(list)
 }
 
-// The live dots of an interface in all `queues` queues, in order.
+// The live dots of an interface in all `queues` queues, in order. No live dot is of another queue. Fails
+// only when out of memory, and never if there is no dot.
 fn dots_of_interface(
     alloc: Global,
     members: &MemberSet,
@@ -67,7 +70,7 @@ fn dots_of_interface(
     Ok(list)
 }
 
-// The live dots of a member, in order.
+// The live dots of a member, in order. Fails only when out of memory, and never if there is no dot.
 fn dots_of_member(
     alloc: Global,
     members: &MemberSet,
@@ -89,7 +92,8 @@ fn dots_of_member(
 }
 
 // The live dots of a member, or, without a queue, of the members of this interface in every queue, in order.
-// `queues` is the number of queues.
+// `queues` is the number of queues; no live dot is of another queue. Fails only when out of memory, and
+// never if there is no dot.
 pub(crate) fn seen_dots(
     alloc: Global,
     members: &MemberSet,

@@ -73,7 +73,8 @@ fn first_stale(journals: &[Journaled]) -> Option<usize>
     None
 }
 
-// The least site whose journal has steps left, if there is one, where `at` says how many steps each site has been given.
+// The least site whose journal has steps left, if there is one, where `at` says how many steps each site has been given, at most
+// all of its journal.
 fn least_left(journals: &[Journaled], at: &[usize]) -> Option<usize>
     requires count { length at.now ≡ length journals.now }
     requires within { (site n : ℕ) (j : JournalState) → slice_get journals.now site ≡ Some j
@@ -91,7 +92,7 @@ fn least_left(journals: &[Journaled], at: &[usize]) -> Option<usize>
     None
 }
 
-// How far a search has come, where no site can go on.
+// How far a search has come, where no site can go on: its events, and the least site that has steps left, if one has.
 fn explained(journals: &[Journaled], replay: Replay<'_>) -> Explanation
     requires kept { IsReplay journals.now replay }
     requires none { (site : ℕ) → site < length journals.now
@@ -159,9 +160,9 @@ pub fn explain(alloc: Global, journals: &[Journaled]) -> Result<Explanation, Aud
 /// older version.
 ///
 /// Errors, in order: 1 `WrongSites`, exactly where the journals aren't those of the sites 0, 1, .. in order, or have two lists of
-/// queues; 2 `NotFresh`, exactly where a journal isn't fresh, with the first such site; 3 `NoRun`, with a site and a position,
-/// where a list of events is stuck: it gives that site its steps before the position and not all, each lesser site all of its own,
-/// each other site its first ones, and no further event gives any site its next; 4 `Memory`.
+/// queues; 2 `NotFresh`, exactly where a journal isn't fresh, with the first such site; 3 `Memory`; 4 `NoRun`, with a site and a
+/// position, where a list of events is stuck: it gives that site its steps before the position and not all, each lesser site all of
+/// its own, each other site its first ones, and no further event gives any site its next.
 pub fn audit(alloc: Global, journals: &[Journaled]) -> Result<Vec<Event>, AuditFault>
     ensures run { IfOk result (λ events. IsRun journals.now events.items) }
     ensures none { journals.now ≡ [] → IsOkAnd result (λ events. events.items ≡ []) }

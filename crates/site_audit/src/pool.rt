@@ -38,14 +38,15 @@ impl<'a> Pool<'a> {
         }
     }
 
-    // The place of the entry that was put in with these bytes, if one was.
+    // The place of the last entry put in with these bytes; `None` if none was.
     pub(crate) fn find(&self, bytes: &'a [u8]) -> Option<usize>
         ensures { result ≡ found_in self.now bytes.now }
     {
         self.places.get(&bytes).copied()
     }
 
-    // Puts the entry that a deed made, if it made one, at the end.
+    // Puts the entry that a deed made, if it made one, at the end. Fails only when out
+    // of memory; then the pool isn't used again.
     pub(crate) fn add(&mut self, deed: &'a StepDeed) -> Result<(), Memory>
         requires { self.old.entries + 1 < 2 ^ 64 }
         ensures { OnOk result (HasFound self.old self.new (made_by deed.now)) }

@@ -24,7 +24,7 @@ pub(crate) struct Replay<'a> {
 }
 
 impl<'a> Replay<'a> {
-    // A replay in which no step of `sites` journals is placed yet.
+    // A replay in which no step of `sites` journals is placed yet. Fails only when out of memory.
     pub(crate) fn begin(alloc: Global, sites: usize) -> Result<Replay<'a>, Memory>
         ensures { IfOk result (λ replay. IsUnplayed replay sites) }
     {
@@ -39,7 +39,9 @@ impl<'a> Replay<'a> {
         })
     }
 
-    // Appends an event that gives `site` its next step, with this deed, and puts the deed's frame, if it made one, into the pool.
+    // Appends an event that gives `site` its next step, with this deed, and puts the deed's frame, if it made one, into the pool,
+    // which has no more entries than there are events. Fails only when out of memory; then the frame may be in the pool without
+    // the event.
     fn put(&mut self, site: SiteId, event: Event, deed: &'a StepDeed) -> Result<(), Memory>
         requires within { site < length self.old.at.items }
         requires fits { slice_index self.old.at.items site + 1 < 2 ^ 64 }
@@ -53,7 +55,8 @@ impl<'a> Replay<'a> {
     }
 }
 
-// The event that gives `site` a deed; `None` for the take of a frame that its maker hasn't made yet.
+// The event that gives `site` a deed; `None` for the take of a frame that its maker hasn't made yet. Fails only when out of
+// memory.
 fn event_for<'a>(pool: &Pool<'a>, site: SiteId, deed: &'a StepDeed) -> Result<Option<Event>, Memory>
     ensures { IfOk result (λ event. event ≡ event_for (found_in pool.now) site deed.now) }
 {
@@ -71,7 +74,8 @@ fn event_for<'a>(pool: &Pool<'a>, site: SiteId, deed: &'a StepDeed) -> Result<Op
     }
 }
 
-// Gives the site at this place of the journals its next step, if the step is possible now. Returns whether it was.
+// Gives the site at this place of the journals its next step, if it has one and the step is possible now. Returns whether it did.
+// Fails only when out of memory; then the replay isn't used again, here and below.
 fn play<'a>(
     journals: &'a [Journaled],
     replay: &mut Replay<'a>,
@@ -100,7 +104,7 @@ fn play<'a>(
     }
 }
 
-// Gives each site in turn its next step, if the step is possible now. Returns whether one was.
+// Gives each site in turn its next step, if the step is possible now. Returns whether one was. Fails only when out of memory.
 fn round<'a>(journals: &'a [Journaled], replay: &mut Replay<'a>) -> Result<bool, Memory>
     requires sites { AreSites journals.now }
     requires kept { IsReplay journals.now replay.old }
@@ -118,7 +122,7 @@ fn round<'a>(journals: &'a [Journaled], replay: &mut Replay<'a>) -> Result<bool,
     Ok(more)
 }
 
-// Gives the sites their steps until none can go on.
+// Gives the sites their steps until none can go on. Fails only when out of memory.
 pub(crate) fn search<'a>(journals: &'a [Journaled], replay: &mut Replay<'a>) -> Result<(), Memory>
     requires sites { AreSites journals.now }
     requires kept { IsReplay journals.now replay.old }

@@ -59,7 +59,7 @@ pub fn knowledges_of_a_world_are_consistent_together()
 {}
 
 /// The deltas of any two knowledges of one world agree, so each join of them is without conflict, and is commutative (RR-7506:
-/// states form a join semilattice). That join is associative and idempotent are laws of `delta`.
+/// states form a join semilattice). Laws of `delta` say that join is associative and idempotent.
 pub fn deltas_of_a_world_agree()
     ensures agree { WorldDeltasAgree }
     ensures commute { DeltasCommute }

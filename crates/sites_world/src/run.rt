@@ -36,7 +36,7 @@ fn answer_told(answer: Answer) -> Outcome
     }
 }
 
-// Runs a command at a site, or reports its status.
+// Runs a command at a site, or reports its status. The outcome is the answer; or `NoMemory`, with nothing changed.
 fn ask_site(alloc: Global, replica: &mut Replica, asked: Ask) -> Outcome
     ensures site { replica.new.site ≡ replica.old.site }
     ensures names { replica.new.names ≡ replica.old.names }
@@ -55,7 +55,7 @@ fn has_frame_to_cut(replica: &Replica) -> bool
     !replica.pending().is_empty() && replica.last().2 < MOST_COUNT
 }
 
-// Reserves room for one frame in the pool, if `makes` is true.
+// Reserves room for one frame in the pool, if `makes` is true. Fails only when out of memory.
 fn make_room(pool: &mut Vec<Frame>, makes: bool) -> Result<(), Memory>
     ensures room { OnOk result (makes ≡ true → vec_len pool.new + 1 ≤ vec_capacity pool.new) }
     ensures pool { pool.new.items ≡ pool.old.items }
@@ -68,7 +68,8 @@ fn make_room(pool: &mut Vec<Frame>, makes: bool) -> Result<(), Memory>
     pool.reserve(1)
 }
 
-// Puts a site's buffer into a frame at the end of the pool, or returns why there is no frame.
+// Puts a site's buffer into a frame at the end of the pool. The outcome is the frame's entry; or, with nothing changed,
+// `None` for an empty buffer, `Exhausted` if no number is left, or `NoMemory` if the pool has no room.
 fn cut_site(replica: &mut Replica, pool: &mut Vec<Frame>) -> Outcome
     ensures site { replica.new.site ≡ replica.old.site }
     ensures names { replica.new.names ≡ replica.old.names }
@@ -93,7 +94,7 @@ fn cut_site(replica: &mut Replica, pool: &mut Vec<Frame>) -> Outcome
     }
 }
 
-// Puts a frame at the end of the pool, which has room for it.
+// Puts a frame at the end of the pool, which has room for it. The outcome is its entry.
 fn put_frame(pool: &mut Vec<Frame>, frame: Frame) -> Outcome
     requires { vec_len pool.old + 1 ≤ vec_capacity pool.old }
     ensures told { result ≡ Outcome.Cut (Ok (Some (length pool.old.items))) }
@@ -104,7 +105,8 @@ fn put_frame(pool: &mut Vec<Frame>, frame: Frame) -> Outcome
     Outcome::Cut(Ok(Some(entry)))
 }
 
-// Puts everything that a site knows into a frame at the end of the pool, or returns why there is no frame.
+// Puts everything that a site knows into a frame at the end of the pool. The outcome is the frame's entry; or, with nothing
+// changed, `Exhausted` if no number is left, or `NoMemory`.
 fn whole_site(replica: &mut Replica, pool: &mut Vec<Frame>) -> Outcome
     ensures site { replica.new.site ≡ replica.old.site }
     ensures names { replica.new.names ≡ replica.old.names }
@@ -145,7 +147,8 @@ pub(crate) fn frame_at(pool: &[Frame], entry: usize) -> Option<&Frame>
     pool.get(entry)
 }
 
-// A site takes a copy of a frame. The contract holds for a frame that the site may join.
+// A site takes a copy of a frame. `NoMemory` also if there is no memory for the copy. The clauses `meaning` and
+// `conditions` are for a frame that the site may join.
 fn take_site(replica: &mut Replica, frame: &Frame) -> Outcome
     ensures site { replica.new.site ≡ replica.old.site }
     ensures names { replica.new.names ≡ replica.old.names }
@@ -178,7 +181,8 @@ fn site_of(event: &Event) -> SiteId
     }
 }
 
-// Runs an event at its site, which is this replica, and returns its outcome.
+// Runs an event at its site, which is this replica, and returns its outcome; `NoEntry` for the take of an entry that isn't
+// there. The clauses `meaning` and `conditions` are for a pool of frames that the site may join.
 fn happen_at(alloc: Global, replica: &mut Replica, pool: &mut Vec<Frame>, event: Event) -> Outcome
     ensures site { replica.new.site ≡ replica.old.site }
     ensures names { replica.new.names ≡ replica.old.names }
@@ -270,7 +274,8 @@ fn happen_by_copy(
     }
 }
 
-// Runs events in turn, and puts the outcome of each at the end of `outcomes`, which has room for all.
+// Runs copies of events in turn, as `happen_by_copy` does, and puts the outcome of each at the end of `outcomes`, which is
+// empty and has room for all.
 pub(crate) fn run_all(
     alloc: Global,
     sites: &mut Vec<Replica>,

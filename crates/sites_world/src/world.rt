@@ -43,7 +43,7 @@ impl Model for World {
     }) };
 }
 
-// Makes `sites` new sites, each with a copy of the list.
+// Makes `sites` new sites, at most 64, each with a copy of the list. Fails only when out of memory.
 fn new_sites(alloc: Global, sites: u16, list: &QueueList) -> Result<Vec<Replica>, Memory>
     requires { sites ≤ SITES }
     ensures count { IfOk result (λ made. length made.items ≡ sites) }

@@ -17,12 +17,12 @@ abbrev pub text_shown : List ℕ → List ℕ → List ℕ
 text_shown [] interface = interface
 text_shown (x ∷ xs) interface = x ∷ xs
 
--- the request selects this queue
+-- whether the request selects this queue: it has no filter, or that is the queue's name
 abbrev pub is_queue_wanted : Option (List ℕ) → List ℕ → Bool
 is_queue_wanted None name = true
 is_queue_wanted (Some wanted) name = bytes_eq wanted name
 
--- the request selects this member: its interface or its name, as it is shown, is the text of the filter
+-- whether the request selects this member: it has no filter, or that is its interface or its name as it is shown
 abbrev pub is_member_wanted : Option (List ℕ) → Row → Bool
 is_member_wanted None row = true
 is_member_wanted (Some wanted) row = bytes_eq wanted row.0 || bytes_eq wanted (text_shown row.1.name row.0)

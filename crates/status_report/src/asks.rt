@@ -1,7 +1,7 @@
 ghost use Rattle.std.specs.Prelude.{◌≡◌, ◌↔◌, IfOk, IsOk, IsTrue};
 
-use crate::{SharedBytes, StatusRequest};
-use dots::Memory;
+use crate::StatusRequest;
+use dots::{Memory, SharedBytes};
 use replica::{Command, Refusal};
 
 /// An ask of a site.

@@ -15,18 +15,18 @@ mod asks;
 pub mod laws;
 mod queues;
 mod request;
-mod shared_bytes;
 mod status;
 
 pub use asks::{Answer, Ask};
 pub use dots::Memory;
+use dots::SharedBytes;
 pub use queues::Queues;
 use replica::{Command, Refusal, Replica};
 pub use request::StatusRequest;
-pub use shared_bytes::SharedBytes;
 pub use status::{report, write_report};
 use std::alloc::Global;
 
+// Does a command at the replica, and answers with its result: `Done`, or `Refused`, which changes nothing.
 fn answer_command(replica: &mut Replica, command: &Command) -> Answer
     ensures command { AnswersCommand replica.old (Ask.Command command.now) replica.new result }
     ensures site { replica.new.site ≡ replica.old.site }
@@ -41,7 +41,7 @@ fn answer_command(replica: &mut Replica, command: &Command) -> Answer
     }
 }
 
-// The report of what a site's queues show, as shared bytes.
+// The report of what a site's queues show, as shared bytes. Fails only when out of memory.
 fn shared_report(
     alloc: Global,
     replica: &Replica,
@@ -53,6 +53,7 @@ fn shared_report(
     SharedBytes::new(alloc, text)
 }
 
+// Answers a status with its report, or with the refusal `Memory` if there is no memory for it.
 fn answer_status(alloc: Global, replica: &Replica, request: &StatusRequest) -> Answer
     ensures status { AnswersStatus replica.now (Ask.Status request.now) result }
     ensures meaning { (s : SiteKnowledge) → StandsFor replica.now s

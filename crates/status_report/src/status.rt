@@ -1,3 +1,5 @@
+//! The report of a QueueStatus, block by block. A `push_` function fails only when out of memory, possibly after a part of
+//! what it appends.
 ghost use Rattle.std.specs.Prelude.{◌≡◌, ◌≤◌, ◌+◌, ◌++◌, ℕ, List, codes, decimal, length};
 ghost use Rattle.std.specs.Prelude.{if◌then◌else◌, map as each, slice_get, IfOk, OnOk};
 ghost use Rattle.std.specs.List.{concat};
@@ -27,13 +29,14 @@ fn push(out: &mut Vec<u8>, bytes: &[u8]) -> Result<(), Memory>
     out.extend_from_slice(bytes)
 }
 
-// The ActionID's line, where the request has one.
+// Appends the ActionID's line, where the request has one.
 fn push_action_id(out: &mut Vec<u8>, request: &StatusRequest) -> Result<(), Memory>
     ensures { OnOk result (out.new.items ≡ out.old.items ++ action_id_line request.now.action_id) }
 {
     push_action_id_line(out, request.action_id.as_slice())
 }
 
+// Appends the block that opens the report.
 fn push_opening(out: &mut Vec<u8>, request: &StatusRequest) -> Result<(), Memory>
     ensures { OnOk result (out.new.items ≡ out.old.items ++ opening request.now.action_id) }
 {
@@ -44,7 +47,7 @@ fn push_opening(out: &mut Vec<u8>, request: &StatusRequest) -> Result<(), Memory
     push_end(out)
 }
 
-// The lines that begin an event: its name, and the ActionID where the request has one.
+// Appends the lines that begin an event: its name, and the ActionID where the request has one.
 fn push_event(out: &mut Vec<u8>, request: &StatusRequest, event: &[u8]) -> Result<(), Memory>
     ensures { OnOk result
         (out.new.items ≡ out.old.items ++ event_lines request.now.action_id event.now) }
@@ -53,6 +56,7 @@ fn push_event(out: &mut Vec<u8>, request: &StatusRequest, event: &[u8]) -> Resul
     push_action_id(out, request)
 }
 
+// Appends the block that closes the report, with the number of blocks between.
 fn push_closing(out: &mut Vec<u8>, request: &StatusRequest, events: u64) -> Result<(), Memory>
     ensures { OnOk result (out.new.items ≡ out.old.items ++ closing request.now.action_id events) }
 {
@@ -73,6 +77,7 @@ fn shown<'a>(text: &'a [u8], interface: &'a Interface) -> &'a [u8]
     }
 }
 
+// Whether the request selects a member: it has no filter, or that is the member's interface or its name as it is shown.
 fn is_member_wanted(request: &StatusRequest, interface: &Interface, row: &Row<'_>) -> bool
     ensures { result ≡ is_member_wanted request.now.member (interface.now, row_view row.now) }
 {
@@ -122,7 +127,8 @@ fn ring_line(ring: bool) -> &'static [u8]
     }
 }
 
-// The block of a member, which begins with this front (`member_front`). The bytes between two values are written at once.
+// Appends the block of a member, which begins with this front (`member_front`). The bytes between two values are written
+// at once.
 fn push_member(
     out: &mut Vec<u8>,
     front: &[u8],
@@ -148,7 +154,7 @@ fn push_member(
     push(out, ring_line(row.ring))
 }
 
-// The blocks of the members of a queue that the request selects, and their number.
+// Appends the blocks of the members of a queue that the request selects, and returns their number.
 fn push_members(
     out: &mut Vec<u8>,
     request: &StatusRequest,
@@ -175,6 +181,7 @@ fn push_members(
     Ok(members)
 }
 
+// Whether the request selects the queue of this name: it has no filter, or that is the name.
 fn is_queue_wanted(request: &StatusRequest, name: &QueueName) -> bool
     ensures { result ≡ is_queue_wanted request.now.queue name.now }
 {
@@ -184,7 +191,7 @@ fn is_queue_wanted(request: &StatusRequest, name: &QueueName) -> bool
     }
 }
 
-// The block of a queue, with how many of its calls were completed and how many abandoned.
+// Appends the block of a queue, with the numbers of its completed and its abandoned calls.
 fn push_totals(
     out: &mut Vec<u8>,
     request: &StatusRequest,
@@ -201,7 +208,8 @@ fn push_totals(
     push_end(out)
 }
 
-// The blocks of the queue of this number, and their number: none if the request doesn't select it.
+// Appends the blocks of the queue of this number, and returns how many they are: none if there is no such queue or the
+// request doesn't select it.
 fn push_queue<Q: Queues>(
     alloc: Global,
     out: &mut Vec<u8>,
