@@ -30,7 +30,8 @@ fn are_all<L: Ledger>(passes: &[Pass<L>], number: u32) -> bool
     true
 }
 
-// Joins the shares of all passes of a ledger. They make up everything that its book has counted.
+// Joins the shares of all passes of a ledger, at least one, and drops them with its book. They make up everything that the book
+// has counted: a caller learns that from the contract alone.
 fn join_shares<L: Ledger>(book: Book<L>, passes: Vec<Pass<L>>)
     requires all { vec_len passes ≡ L.parts }
     requires some { 0 < vec_len passes }

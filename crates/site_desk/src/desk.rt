@@ -9,11 +9,10 @@ ghost use Rattle.site_desk.specs.Passes.{AreNewPasses, HasDone, IsOfAsk, IsRewou
 ghost use Rattle.site_desk.specs.Passes.{last_receipt};
 
 use crate::guarded_journal::GuardedJournal;
-use crate::{Pass, SiteLedger};
-use dots::Memory;
+use crate::{Gate, Pass, SiteLedger};
+use dots::{Memory, SharedBytes};
 use site_journal::{
-    DecodeFault, DecodedFrame, DeskFault, DroppedSteps, Gate, Journaled, Receipt, StepDeed,
-    TakeFault,
+    DecodeFault, DecodedFrame, DeskFault, DroppedSteps, Journaled, Receipt, StepDeed, TakeFault,
 };
 use status_report::{Answer, Ask};
 use std::alloc::Global;
@@ -45,8 +44,9 @@ impl<L: SiteLedger> Model for SiteDesk<L> {
 }
 
 impl<L: SiteLedger> SiteDesk<L> {
-    /// A desk over a journal of the ledger's site, without steps, and its passes, 1 to 256, with the numbers 0, 1 and so on. The
-    /// ledger is a new one, with as many parts as there are passes. When out of memory, returns the journal.
+    /// A desk over a journal of the ledger's site, limit and base, without steps, and its passes, 1 to 256, with the numbers 0, 1 and
+    /// so on. `blank` is the new ledger, with as many parts as there are passes. When out of memory, returns the journal, and drops
+    /// the ledger.
     pub fn new(
         alloc: Global,
         blank: Blank,
@@ -104,9 +104,9 @@ impl<L: SiteLedger> SiteDesk<L> {
         (lock.into_inner(), passes)
     }
 
-    /// Asks the site, and returns its answer. Waits until the lock is free. The ask is copied once, into the step. Errors, in
-    /// order: 1 `Rewound`, if the journal is shorter than the pass has seen; 2 `JournalFull`, if no step may be added; 3 `Memory`.
-    /// A fault leaves the pass as it was.
+    /// Asks the site, and returns its answer. Waits until the lock is free. The ask is copied once, into the step. Errors, in order:
+    /// 1 `Rewound`, if the journal is shorter than the pass has seen; 2 `JournalFull`, if no step may be added; 3 `Memory`. A fault
+    /// leaves the pass, the steps, and what the site says as they were.
     pub fn answer<R: Wait>(
         &self,
         rt: &R,
@@ -127,8 +127,8 @@ impl<L: SiteLedger> SiteDesk<L> {
     }
 
     /// Asks the site, and returns the receipt of the step. Waits until the lock is free. Errors, in order: 1 `Rewound`, if the
-    /// journal is shorter than the pass has seen; 2 `JournalFull`, if no step may be added; 3 `Memory`. A fault leaves the pass as
-    /// it was.
+    /// journal is shorter than the pass has seen; 2 `JournalFull`, if no step may be added; 3 `Memory`. A fault leaves the pass, the
+    /// steps, and what the site says as they were.
     pub fn call<R: Wait>(
         &self,
         rt: &R,
@@ -148,8 +148,8 @@ impl<L: SiteLedger> SiteDesk<L> {
         self.lock.lock(rt).call(pass, asked, copy)
     }
 
-    /// Asks the site as `call` does, and calls the gate once, with this number, while it holds the lock. A gate that doesn't return
-    /// blocks every caller of its desk.
+    /// Asks the site as `call` does, with its errors, and then calls the gate once, with the number `turn`, while it still holds the
+    /// lock, also after an error. A gate that doesn't return blocks every caller of its desk.
     pub fn call_gated<R: Wait, G: Gate>(
         &self,
         rt: &R,
@@ -175,9 +175,9 @@ impl<L: SiteLedger> SiteDesk<L> {
         answered
     }
 
-    /// Puts the site's buffer into its next frame, if the buffer isn't empty. Waits until the lock is free. Errors, in order: 1
-    /// `Rewound`, 2 `JournalFull`, as of a call; 3 `Exhausted`, if the site has made 2^40 frames; 4 `Memory`. A fault leaves the
-    /// pass as it was.
+    /// Puts the site's buffer into its next frame, and returns the receipt; for an empty buffer, that of a step without a frame.
+    /// Waits until the lock is free. Errors, in order: 1 `Rewound`, 2 `JournalFull`, as of a call; 3 `Exhausted`, if the buffer isn't
+    /// empty and the site has made 2^40 frames; 4 `Memory`. A fault leaves the pass, the steps, and what the site says as they were.
     pub fn cut<R: Wait>(&self, rt: &R, pass: &mut Pass<L>) -> Result<Receipt, DeskFault>
         ensures done { IfOk result (λ receipt. HasDone pass.old receipt pass.new) }
         ensures cut { IfOk result (λ receipt. IsOfCut receipt) }
@@ -192,7 +192,9 @@ impl<L: SiteLedger> SiteDesk<L> {
         self.lock.lock(rt).cut(pass)
     }
 
-    /// Puts everything that the site knows into its next frame. Waits until the lock is free. Errors as of a cut.
+    /// Puts everything that the site knows into its next frame, and returns the receipt; the buffer stays. Waits until the lock is
+    /// free. Errors as of a cut, but `Exhausted` wherever the site has made 2^40 frames. A fault leaves the pass, the steps, and what
+    /// the site says as they were.
     pub fn whole<R: Wait>(&self, rt: &R, pass: &mut Pass<L>) -> Result<Receipt, DeskFault>
         ensures done { IfOk result (λ receipt. HasDone pass.old receipt pass.new) }
         ensures whole { IfOk result (λ receipt. IsOfWhole receipt) }
@@ -210,33 +212,34 @@ impl<L: SiteLedger> SiteDesk<L> {
     /// Lets the site take the frame that the bytes encode. An error returns the bytes too. Decodes the frame first, and then waits
     /// until the lock is free, so that other threads wait only while the site joins it. Errors, in order: 1 `Rewound`, 2
     /// `JournalFull`, as of a call; 3 `Decode`, with the fault of the bytes, or `BadRange` if more bytes follow their frame; 4
-    /// `Take`, with the fault for which the site refuses the frame; 5 `Memory`, which never replaces a `Decode` whose fault is in
-    /// the heading. A fault leaves the pass as it was.
+    /// `Take`, with the fault for which the site refuses the frame; 5 `Memory`, which may replace `Take`, and a `Decode` whose fault
+    /// is after the heading, but never one whose fault is in it. A fault leaves the pass, the steps, and what the site says as they
+    /// were.
     pub fn take<R: Wait>(
         &self,
         rt: &R,
         pass: &mut Pass<L>,
-        bytes: Vec<u8>,
-    ) -> Result<Receipt, (DeskFault, Vec<u8>)>
+        bytes: SharedBytes,
+    ) -> Result<Receipt, (DeskFault, SharedBytes)>
         ensures done { IfOk result (λ receipt. HasDone pass.old receipt pass.new) }
-        ensures took { IfOk result (λ receipt. IsOfTake bytes.items receipt) }
+        ensures took { IfOk result (λ receipt. IsOfTake bytes receipt) }
         ensures possible { IfOk result (λ receipt.
             IsPossibleSomewhere L.site L.names receipt.deed) }
         ensures reached { IfOk result (λ receipt. IsLegalReceipt L.base receipt) }
         ensures decode { (fault : DecodeFault) → IsRefusedFor result (DeskFault.Decode fault)
-            → HasFaultAlone bytes.items fault }
+            → HasFaultAlone bytes fault }
         ensures refused { (fault : TakeFault) → IsRefusedFor result (DeskFault.Take fault)
-            → IsRefusedSomewhere L.site L.names bytes.items fault }
+            → IsRefusedSomewhere L.site L.names bytes fault }
         ensures reached_refused { (fault : TakeFault)
             → IsRefusedFor result (DeskFault.Take fault)
-            → IsRefusedFrom L.base pass.old.seen bytes.items fault }
-        ensures memory { IsRefusedFor result DeskFault.Memory → HasOpening bytes.items }
+            → IsRefusedFrom L.base pass.old.seen bytes fault }
+        ensures memory { IsRefusedFor result DeskFault.Memory → HasOpening bytes }
         ensures only { IfErr result (λ refused.
             IsRewound pass.old refused.0 ⊎ RefusesTake refused.0) }
-        ensures back { IfErr result (λ refused. refused.1.items ≡ bytes.items) }
+        ensures back { IfErr result (λ refused. refused.1 ≡ bytes) }
         ensures unchanged { OnErr result (pass.new ≡ pass.old) }
     {
-        let alloc = *bytes.allocator();
+        let alloc = bytes.allocator();
         let decoded = match DecodedFrame::decode(alloc, bytes) {
             Ok(decoded) => decoded,
             Err((fault, bytes)) => return Err((self.lock.lock(rt).first_fault(pass, fault), bytes)),
@@ -249,29 +252,31 @@ impl<L: SiteLedger> SiteDesk<L> {
     }
 
     /// Drops the steps of the journal: the site's state becomes its base, and positions continue. Waits until the lock is free.
-    /// Fails only when out of memory. The memory of the steps is released once the lock is free again.
+    /// Fails only when out of memory, and then drops none. The memory of the steps is released once the lock is free again. No
+    /// contract says what is dropped.
     pub fn checkpoint<R: Wait>(&self, rt: &R) -> Result<(), Memory> {
         let dropped = self.lock.lock(rt).checkpoint();
         drop(dropped?);
         Ok(())
     }
 
-    /// Drops the steps of the journal if their payload is more than `bytes` bytes, as `checkpoint` does. Returns whether it did.
-    /// Fails only when out of memory.
+    /// Drops the steps of the journal if their payload is more than `bytes` bytes, as `checkpoint` does. Returns whether it did; no
+    /// contract says this. Fails only when out of memory, and then drops none.
     pub fn checkpoint_above<R: Wait>(&self, rt: &R, bytes: u64) -> Result<bool, Memory> {
         let dropped = self.lock.lock(rt).checkpoint_above(bytes);
         released(dropped)
     }
 
     /// Drops the steps of the journal if no step may be added, as `checkpoint` does, so that of several threads that find it full one
-    /// alone does so. Returns whether it did. Fails only when out of memory.
+    /// alone does so. Returns whether it did; no contract says this. After 2^40 steps in all the journal stays full, and each call
+    /// drops the steps. Fails only when out of memory, and then drops none.
     pub fn checkpoint_if_full<R: Wait>(&self, rt: &R) -> Result<bool, Memory> {
         let dropped = self.lock.lock(rt).checkpoint_if_full();
         released(dropped)
     }
 }
 
-// Releases the memory of what a journal has dropped, if it has. Returns whether it has.
+// Releases the memory of what a journal has dropped, if it has. Returns whether it has, or the error. No contract says which.
 fn released(dropped: Result<Option<DroppedSteps>, Memory>) -> Result<bool, Memory> {
     match dropped? {
         Some(dropped) => {

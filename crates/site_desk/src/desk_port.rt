@@ -7,6 +7,7 @@ ghost use Rattle.site_desk.specs.Passes.{IsRewound};
 ghost use Rattle.site_desk.specs.Ports.{MakesByPass, RefusesByPass, last_fault, lent_pass};
 
 use crate::{Pass, SiteDesk, SiteLedger};
+use dots::SharedBytes;
 use site_journal::{DecodeFault, DeskFault, Port, Receipt, TakeFault};
 use std::sync::Wait;
 
@@ -45,6 +46,7 @@ impl<'a, L: SiteLedger, R: Wait> Port<R> for DeskPort<'a, L> {
 
     ghost fault = { last_fault };
 
+    /// A cut. Errors as of `SiteDesk::cut`; a fault leaves the pass as it was.
     fn cut(&mut self, rt: &R) -> Result<Receipt, DeskFault>
         ensures made { IfOk result (λ receipt.
             MakesByPass L.site L.names (lent_pass self.old) receipt (lent_pass self.new)) }
@@ -80,6 +82,7 @@ impl<'a, L: SiteLedger, R: Wait> Port<R> for DeskPort<'a, L> {
         }
     }
 
+    /// A whole. Errors as of `SiteDesk::whole`; a fault leaves the pass as it was.
     fn whole(&mut self, rt: &R) -> Result<Receipt, DeskFault>
         ensures made { IfOk result (λ receipt.
             MakesByPass L.site L.names (lent_pass self.old) receipt (lent_pass self.new)) }
@@ -115,29 +118,31 @@ impl<'a, L: SiteLedger, R: Wait> Port<R> for DeskPort<'a, L> {
         }
     }
 
-    fn take(&mut self, rt: &R, bytes: Vec<u8>) -> Result<Receipt, (DeskFault, Vec<u8>)>
+    /// A take. Errors as of `SiteDesk::take`: each returns the bytes, and leaves the pass as
+    /// it was.
+    fn take(&mut self, rt: &R, bytes: SharedBytes) -> Result<Receipt, (DeskFault, SharedBytes)>
         ensures made { IfOk result (λ receipt.
             MakesByPass L.site L.names (lent_pass self.old) receipt (lent_pass self.new)) }
         ensures refused { IfErr result (λ refused.
             RefusesByPass (lent_pass self.old) refused.0 (lent_pass self.new)) }
         ensures ordinal { (lent_pass self.new).now.ordinal ≡ (lent_pass self.old).now.ordinal }
-        ensures deed { IfOk result (λ receipt. IsOfTake bytes.items receipt) }
+        ensures deed { IfOk result (λ receipt. IsOfTake bytes receipt) }
         ensures pass { IfOk result (λ receipt.
             receipt.pass ≡ (lent_pass self.old).now.ordinal) }
         ensures counted { IfOk result (λ receipt.
             (lent_pass self.new).now.share ≡ (lent_pass self.old).now.share + 1) }
         ensures well { IfOk result (λ receipt. last_fault self.new ≡ None) }
-        ensures back { IfErr result (λ refused. refused.1.items ≡ bytes.items) }
+        ensures back { IfErr result (λ refused. refused.1 ≡ bytes) }
         ensures kept { IfErr result (λ refused.
             (lent_pass self.new).now.share ≡ (lent_pass self.old).now.share) }
         ensures told { IfErr result (λ refused. last_fault self.new ≡ Some refused.0) }
         ensures possible { IfOk result (λ receipt.
             IsPossibleSomewhere L.site L.names receipt.deed) }
         ensures decode { (fault : DecodeFault) → IsRefusedFor result (DeskFault.Decode fault)
-            → HasFaultAlone bytes.items fault }
+            → HasFaultAlone bytes fault }
         ensures cause { (fault : TakeFault) → IsRefusedFor result (DeskFault.Take fault)
-            → IsRefusedSomewhere L.site L.names bytes.items fault }
-        ensures memory { IsRefusedFor result DeskFault.Memory → HasOpening bytes.items }
+            → IsRefusedSomewhere L.site L.names bytes fault }
+        ensures memory { IsRefusedFor result DeskFault.Memory → HasOpening bytes }
         ensures only { IfErr result (λ refused.
             IsRewound (lent_pass self.old).now refused.0 ⊎ RefusesTake refused.0) }
     {

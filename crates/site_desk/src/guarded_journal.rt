@@ -66,7 +66,7 @@ fn receipt_of<L: Ledger>(
 }
 
 impl<L: SiteLedger> GuardedJournal<L> {
-    /// A journal of the ledger's site, without steps, with a book that has counted none.
+    /// A journal of the ledger's site, limit and base, without steps, with a book that has counted none.
     pub fn open(journal: Journaled, book: Book<L>) -> GuardedJournal<L>
         requires begun { journal.count ≡ 0 }
         requires site { IsOfSite L.site L.names journal }
@@ -98,7 +98,7 @@ impl<L: SiteLedger> GuardedJournal<L> {
         (journal, book)
     }
 
-    // The journal's length, unless the pass has seen a longer one.
+    // The journal's length. If the pass has seen a longer journal, the fault is `Rewound` with that length.
     fn len_for(&self, pass: &Pass<L>) -> Result<u64, DeskFault>
         ensures journal { IsJournal self.now }
         ensures site { IsOfSite L.site L.names self.now }
@@ -139,7 +139,7 @@ impl<L: SiteLedger> GuardedJournal<L> {
     }
 
     /// Asks the site for a pass, and returns the answer. Errors, in order: 1 `Rewound`, exactly where the pass has seen a longer
-    /// journal; then those of the journal.
+    /// journal; 2 those of `Journaled::answer`. An error leaves the pass, the steps, and what the site says as they were.
     pub fn answer(&mut self, pass: &mut Pass<L>, asked: &Ask) -> Result<Answer, DeskFault>
         ensures site { IsOfSite L.site L.names self.old }
         ensures reached { IsReached L.base self.old.count self.old.replica }
@@ -167,8 +167,8 @@ impl<L: SiteLedger> GuardedJournal<L> {
         Ok(answer)
     }
 
-    /// Asks the site for a pass, and returns the receipt. `copy` is a copy of the ask for the receipt, if there was memory for it.
-    /// Errors as of `answer`.
+    /// Asks the site for a pass, and returns the receipt. `copy` is a copy of the ask for the receipt, if there was memory for it:
+    /// else nothing is asked, and the fault is `Memory` where it isn't an earlier one. Errors as of `answer`.
     pub fn call(
         &mut self,
         pass: &mut Pass<L>,
@@ -210,7 +210,8 @@ impl<L: SiteLedger> GuardedJournal<L> {
         }
     }
 
-    /// Cuts for a pass. Errors, in order: 1 `Rewound`, as of a call; then those of the journal.
+    /// Puts the site's buffer into its next frame for a pass, if the buffer isn't empty. Errors, in order: 1 `Rewound`, as of an
+    /// answer; 2 those of `Journaled::cut`. An error changes nothing.
     pub fn cut(&mut self, pass: &mut Pass<L>) -> Result<Receipt, DeskFault>
         ensures site { IsOfSite L.site L.names self.old }
         ensures reached { IsReached L.base self.old.count self.old.replica }
@@ -239,7 +240,8 @@ impl<L: SiteLedger> GuardedJournal<L> {
         Ok(receipt_of(book, pass, position, step))
     }
 
-    /// Makes a frame of everything for a pass. Errors, in order: 1 `Rewound`, as of a call; then those of the journal.
+    /// Puts everything that the site knows into its next frame, for a pass. Errors, in order: 1 `Rewound`, as of an answer; 2 those
+    /// of `Journaled::whole`. An error changes nothing.
     pub fn whole(&mut self, pass: &mut Pass<L>) -> Result<Receipt, DeskFault>
         ensures site { IsOfSite L.site L.names self.old }
         ensures reached { IsReached L.base self.old.count self.old.replica }
@@ -267,8 +269,8 @@ impl<L: SiteLedger> GuardedJournal<L> {
         Ok(receipt_of(book, pass, position, step))
     }
 
-    /// Takes a decoded frame for a pass. An error returns the frame too. Errors, in order: 1 `Rewound`, as of an answer; then those
-    /// of the journal.
+    /// Takes a decoded frame for a pass. An error returns the frame too, and leaves the pass, the steps, and what the site says as
+    /// they were. Errors, in order: 1 `Rewound`, as of an answer; 2 those of `Journaled::take_decoded`.
     pub fn take(
         &mut self,
         pass: &mut Pass<L>,
@@ -309,7 +311,8 @@ impl<L: SiteLedger> GuardedJournal<L> {
         Ok(receipt_of(book, pass, position, step))
     }
 
-    /// Drops the journal's steps; the book keeps its count. Returns the memory of what it dropped. Fails only when out of memory.
+    /// Drops the journal's steps; the book keeps its count. Returns the memory of what it dropped. Fails only when out of memory,
+    /// and then drops none.
     pub fn checkpoint(&mut self) -> Result<DroppedSteps, Memory>
         ensures dropped { OnOk result (HasDropped self.old self.new) }
         ensures unchanged { OnErr result (self.new ≡ self.old) }
@@ -318,8 +321,8 @@ impl<L: SiteLedger> GuardedJournal<L> {
         journal.checkpoint()
     }
 
-    /// Drops the journal's steps if their payload is more than `bytes` bytes, and returns the memory of what it dropped. Fails only
-    /// when out of memory.
+    /// Drops the journal's steps if their payload is more than `bytes` bytes, and returns the memory of what it dropped; else
+    /// `None`. Fails only when out of memory, and then drops none.
     pub fn checkpoint_above(&mut self, bytes: u64) -> Result<Option<DroppedSteps>, Memory>
         ensures above { IfOk result (λ dropped. IsSome dropped
             ↔ (bytes < min (kept_by_steps self.old.steps) (2 ^ 64 - 1))) }
@@ -335,7 +338,8 @@ impl<L: SiteLedger> GuardedJournal<L> {
         Ok(Some(dropped))
     }
 
-    /// Drops the journal's steps if no step may be added, and returns the memory of what it dropped. Fails only when out of memory.
+    /// Drops the journal's steps if no step may be added, and returns the memory of what it dropped; else `None`. A journal of 2^40
+    /// steps in all stays full. Fails only when out of memory, and then drops none.
     pub fn checkpoint_if_full(&mut self) -> Result<Option<DroppedSteps>, Memory>
         ensures full { IfOk result (λ dropped. IsSome dropped ↔ IsFull self.old) }
         ensures done { IfOk result (λ dropped. MatchOption dropped

@@ -26,7 +26,7 @@ impl<L: Ledger> Model for Pass<L> {
 }
 
 impl<L: Ledger> Pass<L> {
-    // The pass of this number, which has done nothing.
+    // The pass of this number, which has done nothing. Its share is one part of the ledger, and has counted nothing.
     pub(crate) fn new(ordinal: u32, share: Share<L>) -> Pass<L>
         requires part { share.parts ≡ 1 }
         requires nothing { share.amount ≡ 0 }
@@ -53,7 +53,7 @@ impl<L: Ledger> Pass<L> {
         self.seen
     }
 
-    // Counts a step that it has done at this position.
+    // Counts a step that it has done at this position, at most 2^40, and notes the length of the journal after it.
     pub(crate) fn count(&mut self, book: &mut Book<L>, position: u64)
         requires few { position ≤ MOST_COUNT }
         ensures pass { self.new ≡ one_more self.old position }

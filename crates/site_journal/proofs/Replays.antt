@@ -1,14 +1,9 @@
 -- A step that can come next comes when it is done again.
-use Rattle.std.proofs.Common.{◌≡◌, ◌≢◌, ◌⊎◌, ◌<◌, ◌++◌, inl, inr, ℕ, List, length, take, drop, Option, Some, None, Result, Ok, Err, refl, sym, ap, ap₂, subst, ◌∙◌, arith}
-use Rattle.std.proofs.lemmas.List.{length-drop, take-append-drop, take_all}
+use Rattle.std.proofs.Common.{◌≡◌, ◌≢◌, ◌⊎◌, inl, inr, ℕ, List, Option, Some, None, Result, Err, refl, sym, ap, ap₂, subst, ◌∙◌, arith}
 use Rattle.delta.specs.DeltaStates.{DeltaState}
-use Rattle.delta.specs.declared.frame.Frame.{Frame}
-use Rattle.delta_codec.specs.Decoding.{AreBytes, BeginsWithFrame}
-use Rattle.delta_codec.specs.Frames.{Spells, SpellsIn}
 use Rattle.delta_codec.specs.declared.decode_fault.DecodeFault.{DecodeFault}
 use Rattle.delta_codec.specs.declared.limits.TheConstants.{VERSION}
-use Rattle.delta_codec.proofs.FaultLaws.{not_both_of}
-use Rattle.delta_codec.proofs.FrameLaws.{no_prefix, one_frame, one_spelling}
+use Rattle.delta_codec.proofs.FrameLaws.{one_frame, one_spelling}
 use Rattle.replica.specs.declared.refusal.Refusal.{Refusal}
 use Rattle.replica.specs.declared.refusal.Refusal.TheVariants.{Memory}
 use Rattle.replica.specs.Changes.{Meaning, change_of}
@@ -23,9 +18,8 @@ use Rattle.replica.specs.declared.take_fault.TakeFault.TheVariants as take_fault
 use Rattle.member_orset.proofs.Agreeing.{sets_apart}
 use Rattle.site_journal.specs.declared.desk_fault.DeskFault.{DeskFault}
 use Rattle.site_journal.specs.declared.desk_fault.DeskFault.TheVariants as desk_fault
-use Rattle.site_journal.specs.Journals.{HasFaultAlone, IsRefusedFrame, RefusesTake}
+use Rattle.site_journal.specs.Journals.{IsRefusedFrame, RefusesTake, SpellNoFrame}
 use Rattle.status_report.specs.Answers.{answer_of}
-use Rattle.status_report.specs.Status.{report_of}
 use Rattle.status_report.specs.declared.asks.Answer.{Answer}
 use Rattle.status_report.specs.declared.asks.Answer.TheVariants.{Report}
 use Rattle.status_report.specs.declared.asks.Ask.{Ask}
@@ -76,26 +70,6 @@ one_deed from a b d e again p q = same_deed p.old q.old p.new q.new d e (site_th
 
 -- ---- a take that is done again is not refused
 
--- a frame that bytes spell is the one at their front, and nothing is behind it
-begins : (bytes : List ℕ) (frame : Frame) → Spells frame bytes → BeginsWithFrame bytes
-begins bytes frame spelled = record {
-  frame = frame;
-  len = length bytes;
-  there = omega arith;
-  spelled = subst (λ (b : List ℕ). Spells frame b) (sym (take_all (length bytes) bytes (omega arith))) spelled;
-}
-
--- bytes that spell a frame have no fault as one
-no_fault : (bytes : List ℕ) (frame : Frame) (fault : DecodeFault) → AreBytes bytes → Spells frame bytes → HasFaultAlone bytes fault → ⊥
-no_fault bytes frame fault each spelled (inl has) = not_both_of bytes each (begins bytes frame spelled) (record { fault = fault; has = has })
-no_fault bytes frame fault each spelled (inr more) =
-    let front = more.1 in
-    let whole : Spells frame (take front.len bytes ++ drop front.len bytes) = subst (λ (b : List ℕ). Spells frame b) (sym (take-append-drop front.len bytes)) spelled in
-    let none = no_prefix front.frame frame (take front.len bytes) (drop front.len bytes) front.spelled whole in
-    let some = front.more in
-    let size : length (drop front.len bytes) ≡ 0 = ap length none in
-    omega (arith, length-drop front.len bytes)
-
 -- a site that may take a delta doesn't refuse it
 not_refused : (s : SiteState) (d : DeltaState) (fault : TakeFault) → fault ≢ take_fault.Memory → MayTake s d → IsRefusedTake s d (λ cause. fault ≡ cause) → ⊥
 not_refused s d take_fault.NoSuchQueue some may refused = may.joins.hears.queues (refused.no_such_queue.0 refl)
@@ -109,16 +83,16 @@ abbrev FullOrMemory : DeskFault → Type 0
 FullOrMemory fault = (fault ≡ desk_fault.JournalFull) ⊎ (fault ≡ desk_fault.Memory)
 
 -- a take that can come next is refused only for a full journal, or when out of memory
-pub take_comes : (s to : SiteState) (bytes : List ℕ) (fault : DeskFault) → AreBytes bytes → Leads s (Took bytes) to → ((f : DecodeFault) → fault ≡ desk_fault.Decode f → HasFaultAlone bytes f)
+pub take_comes : (s to : SiteState) (bytes : List ℕ) (fault : DeskFault) → Leads s (Took bytes) to → ((f : DecodeFault) → fault ≡ desk_fault.Decode f → SpellNoFrame bytes)
     → ((f : TakeFault) → fault ≡ desk_fault.Take f → IsRefusedFrame s bytes f) → RefusesTake fault → FullOrMemory fault
-take_comes s to bytes desk_fault.JournalFull each leads decode refused only = inl refl
-take_comes s to bytes desk_fault.Memory each leads decode refused only = inr refl
-take_comes s to bytes (desk_fault.Decode f) each leads decode refused only = absurd (no_fault bytes leads.done.frame f each leads.done.spelled (decode f refl))
-take_comes s to bytes (desk_fault.Take f) each leads decode refused only =
+take_comes s to bytes desk_fault.JournalFull leads decode refused only = inl refl
+take_comes s to bytes desk_fault.Memory leads decode refused only = inr refl
+take_comes s to bytes (desk_fault.Decode f) leads decode refused only = absurd (decode f refl leads.done.frame leads.done.spelled)
+take_comes s to bytes (desk_fault.Take f) leads decode refused only =
     let told = refused f refl in
     let same = (one_frame leads.done.frame told.frame bytes leads.done.spelled told.spelled).delta in
     let may = may_same leads.old s (site_turned s leads.old leads.before) leads.done.frame.delta leads.done.done.may in
     absurd (not_refused s told.frame.delta f only (may_take_same leads.done.frame.delta told.frame.delta same s may) told.refused)
-take_comes s to bytes desk_fault.Exhausted each leads decode refused only = absurd only
-take_comes s to bytes (desk_fault.Rewound len) each leads decode refused only = absurd only
-take_comes s to bytes desk_fault.Unsaved each leads decode refused only = absurd only
+take_comes s to bytes desk_fault.Exhausted leads decode refused only = absurd only
+take_comes s to bytes (desk_fault.Rewound len) leads decode refused only = absurd only
+take_comes s to bytes desk_fault.Unsaved leads decode refused only = absurd only

@@ -143,6 +143,10 @@ pub record HasMore (bytes : List ℕ) : Type 0 where
 abbrev pub HasFaultAlone : List ℕ → DecodeFault → Type 0
 HasFaultAlone bytes fault = HasFault bytes fault ⊎ ((fault ≡ BadRange) × HasMore bytes)
 
+-- `bytes` spell no frame
+abbrev pub SpellNoFrame : List ℕ → Type 0
+SpellNoFrame bytes = (frame : Frame) → Spells frame bytes → ⊥
+
 -- `bytes` spell a frame that a site in state `s` refuses for the cause `fault`, the first that applies
 pub record IsRefusedFrame (s : SiteState) (bytes : List ℕ) (fault : TakeFault) : Type 0 where
   pub frame : Frame

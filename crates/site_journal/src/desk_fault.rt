@@ -25,7 +25,7 @@ pub enum DeskFault {
     /// A commit of the site's store has failed, so the step isn't durable. Only a desk with a store returns this fault.
     #[error("not saved")]
     Unsaved,
-    /// An allocation was refused.
+    /// An allocation was refused, or bytes to be copied have 2^63 - 1 owners.
     #[error("out of memory")]
     Memory,
 }

@@ -11,13 +11,14 @@ ghost use Rattle.site_journal.specs.Keeping.{kept_by_steps};
 ghost use Rattle.site_journal.specs.Journals.{HasAdded, HasDropped, HasFaultAlone, IsAnswerTo};
 ghost use Rattle.site_journal.specs.Journals.{IsNewJournal, IsStepOfCut, IsFull, IsJournal, IsRefusedFor};
 ghost use Rattle.site_journal.specs.Journals.{RefusesTake, IsRefusedFrame, IsUnchanged, IsStepOfWhole};
+ghost use Rattle.site_journal.specs.Journals.{SpellNoFrame};
 ghost use Rattle.site_journal.specs.Legal.{IsAsked, Leads};
 
 use crate::step_list::StepList;
 use crate::{DecodedFrame, DeskFault, Step, StepDeed};
 use delta::Delta;
 use delta_codec::{DecodeFault, encode_parts};
-use dots::{Bytes, MOST_COUNT, Memory, SiteId};
+use dots::{MOST_COUNT, Memory, SharedBytes, SiteId};
 use replica::{Refusal, Replica, TakeFault};
 use status_report::{Answer, Ask, ask};
 use std::alloc::Global;
@@ -28,6 +29,7 @@ use std::mem;
 pub const MOST_STEPS: u32 = 1_000_000;
 
 // Asks a site, and returns its answer twice. Fails only when out of memory, also if the site's answer is that it is out of memory.
+// Then what the site says stays: a copy of a report alone takes memory, and a status changes nothing.
 fn ask_twice(alloc: Global, replica: &mut Replica, asked: &Ask) -> Result<(Answer, Answer), Memory>
     ensures same { IfOk result (λ both. both.1 ≡ both.0) }
     ensures asked { IfOk result (λ both. IsAsked replica.old asked.now both.0 replica.new) }
@@ -41,25 +43,30 @@ fn ask_twice(alloc: Global, replica: &mut Replica, asked: &Ask) -> Result<(Answe
     Ok((answer, other))
 }
 
-// The bytes of a frame of this maker and number, twice.
+// The bytes of a frame of this maker and number, in the version that is written, with two owners. Its values are within the ranges of
+// a frame. Fails only when out of memory.
 fn spelled(
     alloc: Global,
     maker: SiteId,
     number: u64,
     delta: &Delta,
-) -> Result<(Bytes, Bytes), Memory>
+) -> Result<(SharedBytes, SharedBytes), Memory>
     requires { IsInRanges (frame_of maker number delta.now) }
     ensures same { IfOk result (λ both. both.1 ≡ both.0) }
     ensures spelled { IfOk result (λ both.
         SpellsIn VERSION (frame_of maker number delta.now) both.0) }
 {
-    let bytes = Bytes::new(encode_parts(alloc, maker, number, delta)?);
+    let bytes = SharedBytes::new(alloc, encode_parts(alloc, maker, number, delta)?)?;
     let other = bytes.copy()?;
     Ok((bytes, other))
 }
 
-// Cuts the buffer of a site that has a number left, and returns the frame's bytes twice. Both are made before anything changes.
-fn cut_twice(alloc: Global, replica: &mut Replica) -> Result<(Option<Bytes>, Option<Bytes>), Memory>
+// Cuts the buffer of a site that has a number left, and returns the frame's bytes, with two owners. They are written before anything
+// changes. `None` twice if the buffer is empty. Fails only when out of memory, and then changes nothing.
+fn cut_twice(
+    alloc: Global,
+    replica: &mut Replica,
+) -> Result<(Option<SharedBytes>, Option<SharedBytes>), Memory>
     requires { (IsEmpty replica.old.pending → ⊥) → replica.old.frames < MOST_COUNT }
     ensures same { IfOk result (λ both. both.1 ≡ both.0) }
     ensures leads { IfOk result (λ both. Leads replica.old (StepDeed.Cut both.0) replica.new) }
@@ -79,9 +86,10 @@ fn cut_twice(alloc: Global, replica: &mut Replica) -> Result<(Option<Bytes>, Opt
     }
 }
 
-// Makes a frame of everything that a site knows, and returns its bytes twice. The site has a number left. The bytes are written
-// from the state itself, before the number is used up.
-fn whole_twice(alloc: Global, replica: &mut Replica) -> Result<(Bytes, Bytes), Memory>
+// Makes a frame of everything that a site knows, and returns its bytes, with two owners; the buffer stays. The site has a number
+// left. The bytes are written from the state itself, before the number is used up. Fails only when out of memory, and then changes
+// nothing.
+fn whole_twice(alloc: Global, replica: &mut Replica) -> Result<(SharedBytes, SharedBytes), Memory>
     requires { replica.old.frames < MOST_COUNT }
     ensures same { IfOk result (λ both. both.1 ≡ both.0) }
     ensures leads { IfOk result (λ both. Leads replica.old (StepDeed.Whole both.0) replica.new) }
@@ -95,7 +103,7 @@ fn whole_twice(alloc: Global, replica: &mut Replica) -> Result<(Bytes, Bytes), M
     }
 }
 
-// The fault of a step for a take that fails.
+// The fault of a step for a take that fails: `Memory` stays, and every other one is a `Take`.
 fn take_fault(fault: TakeFault) -> DeskFault
     ensures take { (told : TakeFault) → result ≡ DeskFault.Take told → fault ≡ told }
     ensures only { RefusesTake result }
@@ -127,7 +135,7 @@ pub struct Journaled {
     count: u64,
     limit: u32,
     replica: Replica,
-    pub(crate) alloc: Global,
+    alloc: Global,
 }
 
 impl Model for Journaled {
@@ -247,7 +255,7 @@ impl Journaled {
     /// command that the site refuses is a step, except when it is out of memory.
     ///
     /// Errors, in order: 1 `JournalFull`, exactly where the journal holds its limit of steps, or 2^40 were done in all; 2 `Memory`,
-    /// also if the site's answer is that it is out of memory.
+    /// also if the site's answer is that it is out of memory. An error leaves the steps, and what the site says as they were.
     pub fn answer(&mut self, pass: u32, asked: &Ask) -> Result<Answer, DeskFault>
         ensures added { IfOk result (λ answer. HasAdded self.old
             (record { pass = pass; deed = StepDeed.Asked asked.now answer }) self.new) }
@@ -309,9 +317,10 @@ impl Journaled {
         }
     }
 
-    /// Puts the site's buffer into its next frame, if the buffer isn't empty, by the pass of this number, and returns a copy of the
-    /// step. Errors, in order: 1 `JournalFull`, exactly where the journal holds its limit of steps, or 2^40 were done in all; 2
-    /// `Exhausted`, exactly where the buffer isn't empty and the site has made 2^40 frames; 3 `Memory`.
+    /// Puts the site's buffer into its next frame, by the pass of this number, and returns a copy of the step; for an empty buffer,
+    /// of a step without a frame. Errors, in order: 1 `JournalFull`, exactly where the journal holds its limit of steps, or 2^40 were
+    /// done in all; 2 `Exhausted`, exactly where the buffer isn't empty and the site has made 2^40 frames; 3 `Memory`. An error
+    /// changes nothing.
     pub fn cut(&mut self, pass: u32) -> Result<Step, DeskFault>
         ensures added { IfOk result (λ step. HasAdded self.old step self.new) }
         ensures pass { IfOk result (λ step. step.pass ≡ pass) }
@@ -347,9 +356,9 @@ impl Journaled {
         })
     }
 
-    /// Puts everything that the site knows into its next frame, by the pass of this number, and returns a copy of the step. Errors,
-    /// in order: 1 `JournalFull`, exactly where the journal holds its limit of steps, or 2^40 were done in all; 2 `Exhausted`,
-    /// exactly where the site has made 2^40 frames; 3 `Memory`.
+    /// Puts everything that the site knows into its next frame, by the pass of this number, and returns a copy of the step; the
+    /// buffer stays. Errors, in order: 1 `JournalFull`, exactly where the journal holds its limit of steps, or 2^40 were done in all;
+    /// 2 `Exhausted`, exactly where the site has made 2^40 frames; 3 `Memory`. An error changes nothing.
     pub fn whole(&mut self, pass: u32) -> Result<Step, DeskFault>
         ensures added { IfOk result (λ step. HasAdded self.old step self.new) }
         ensures pass { IfOk result (λ step. step.pass ≡ pass) }
@@ -385,24 +394,26 @@ impl Journaled {
     }
 
     /// Lets the site take the frame that the bytes encode, in either version, by the pass of this number, and returns a copy of the
-    /// step. Each error returns the bytes too.
+    /// step. Each error returns the bytes too, and leaves the steps and what the site says as they were.
     ///
     /// Errors, in order: 1 `JournalFull`, exactly where the journal holds its limit of steps, or 2^40 were done in all; 2 `Decode`,
     /// with the fault of the bytes, or `BadRange` if more bytes follow their frame; 3 `Take`, with the fault for which the site
     /// refuses the frame; 4 `Memory`. `Memory` may replace `Take`, and a `Decode` whose fault is after a whole heading, but never a
     /// `Decode` whose fault is in the heading.
-    pub fn take(&mut self, pass: u32, bytes: Vec<u8>) -> Result<Step, (DeskFault, Vec<u8>)>
+    pub fn take(&mut self, pass: u32, bytes: SharedBytes) -> Result<Step, (DeskFault, SharedBytes)>
         ensures added { IfOk result (λ step. HasAdded self.old step self.new) }
         ensures pass { IfOk result (λ step. step.pass ≡ pass) }
-        ensures done { IfOk result (λ step. step.deed ≡ StepDeed.Took bytes.items) }
+        ensures done { IfOk result (λ step. step.deed ≡ StepDeed.Took bytes) }
         ensures full { IsRefusedFor result DeskFault.JournalFull ↔ IsFull self.old }
         ensures decode { (fault : DecodeFault) → IsRefusedFor result (DeskFault.Decode fault)
-            → HasFaultAlone bytes.items fault }
+            → HasFaultAlone bytes fault }
+        ensures no_frame { (fault : DecodeFault) → IsRefusedFor result (DeskFault.Decode fault)
+            → SpellNoFrame bytes }
         ensures refused { (fault : TakeFault) → IsRefusedFor result (DeskFault.Take fault)
-            → IsRefusedFrame self.old.replica bytes.items fault }
-        ensures memory { IsRefusedFor result DeskFault.Memory → HasOpening bytes.items }
+            → IsRefusedFrame self.old.replica bytes fault }
+        ensures memory { IsRefusedFor result DeskFault.Memory → HasOpening bytes }
         ensures only { IfErr result (λ refused. RefusesTake refused.0) }
-        ensures back { IfErr result (λ refused. refused.1.items ≡ bytes.items) }
+        ensures back { IfErr result (λ refused. refused.1 ≡ bytes) }
         ensures unchanged { OnErr result (IsUnchanged self.old self.new) }
     {
         if self.is_full() {
@@ -419,8 +430,9 @@ impl Journaled {
     }
 
     /// Lets the site take a decoded frame, by the pass of this number, and returns a copy of the step. Each error returns the frame
-    /// too. Errors, in order: 1 `JournalFull`, exactly where the journal holds its limit of steps, or 2^40 were done in all; 2
-    /// `Take`, with the fault for which the site refuses the frame; 3 `Memory`, which may replace `Take`.
+    /// too, and leaves the steps and what the site says as they were. Errors, in order: 1 `JournalFull`, exactly where the journal
+    /// holds its limit of steps, or 2^40 were done in all; 2 `Take`, with the fault for which the site refuses the frame; 3 `Memory`,
+    /// which may replace `Take`.
     pub fn take_decoded(
         &mut self,
         pass: u32,
@@ -459,9 +471,9 @@ impl Journaled {
         })
     }
 
-    /// Drops the steps: the replica's state becomes the base. Returns the memory of what it dropped, whose release takes milliseconds
-    /// where the steps hold long reports: a caller that holds a lock gives up the lock first. Fails only when out of memory, and then
-    /// changes nothing.
+    /// Drops the steps: the replica's state becomes the base, and the count of all steps stays. Returns the memory of what it
+    /// dropped, whose release takes milliseconds where the steps hold long reports: a caller that holds a lock gives up the lock
+    /// first. Fails only when out of memory, and then changes nothing.
     pub fn checkpoint(&mut self) -> Result<DroppedSteps, Memory>
         ensures journal { IsJournal self.old }
         ensures dropped { OnOk result (HasDropped self.old self.new) }

@@ -2,7 +2,8 @@
 //! that works for it.
 //!
 //! A journal keeps the replica that it began from, each step since with its result, and the replica. The steps lead from the first
-//! replica to the present one at all times, whatever was refused.
+//! replica to the present one at all times, whatever was refused. Bytes that have 2^63 - 1 owners get no further one: here that
+//! counts as out of memory.
 #![tactic(auto)]
 
 mod decoded_frame;
@@ -23,7 +24,7 @@ pub use delta_codec::DecodeFault;
 pub use desk_fault::DeskFault;
 pub use dots::Memory;
 pub use journaled::{DroppedSteps, Journaled, MOST_STEPS};
-pub use ports::{Bell, Gate, Port};
+pub use ports::{Bell, Port};
 pub use receipt::Receipt;
 pub use replay_fault::ReplayFault;
 pub use replica::TakeFault;

@@ -4,9 +4,10 @@ ghost use Rattle.dots.specs.declared.limits.TheConstants.{MOST_COUNT};
 ghost use Rattle.site_journal.specs.Receipts.{IsOfCut, IsOfTake, IsOfWhole};
 
 use crate::{DeskFault, Receipt};
+use dots::SharedBytes;
 
-/// A desk's `cut`, `whole` and `take` for one pass. Each call returns its receipt, or the fault for which nothing was done. The
-/// fault of the last call can be read from the port.
+/// A desk's `cut`, `whole` and `take` for one pass. Each call returns its receipt, or a `DeskFault`; only after `Unsaved`, and
+/// after `Memory` of a desk with a store, its step may have been done. Contracts see the fault of the last call.
 pub trait Port<R> {
     ghost use Rattle.std.specs.Prelude.{ℕ, Option};
     ghost use Rattle.site_journal.specs.declared.desk_fault.DeskFault.{DeskFault};
@@ -21,13 +22,14 @@ pub trait Port<R> {
     /// The number of the pass, which stays.
     ghost ordinal: { Self → ℕ };
 
-    /// How many steps were done by the pass.
+    /// How many steps the pass has done, without those of calls that returned a fault.
     ghost share: { Self → ℕ };
 
     /// The fault of the port's last call, if that had one.
     ghost fault: { Self → Option DeskFault };
 
-    /// Puts the site's buffer into its next frame, if the buffer isn't empty.
+    /// Puts the site's buffer into its next frame, and returns the receipt; for an empty buffer, that of a step without a frame.
+    /// The errors are those of the desk.
     fn cut(&mut self, rt: &R) -> Result<Receipt, DeskFault>
         ensures made { IfOk result (λ receipt. makes self.old receipt self.new) }
         ensures refused { IfErr result (λ cause. refuses self.old cause self.new) }
@@ -39,7 +41,7 @@ pub trait Port<R> {
         ensures kept { IfErr result (λ cause. share self.new ≡ share self.old) }
         ensures told { IfErr result (λ cause. fault self.new ≡ Some cause) };
 
-    /// Puts everything that the site knows into its next frame.
+    /// Puts everything that the site knows into its next frame, and returns the receipt. The errors are those of the desk.
     fn whole(&mut self, rt: &R) -> Result<Receipt, DeskFault>
         ensures made { IfOk result (λ receipt. makes self.old receipt self.new) }
         ensures refused { IfErr result (λ cause. refuses self.old cause self.new) }
@@ -51,16 +53,17 @@ pub trait Port<R> {
         ensures kept { IfErr result (λ cause. share self.new ≡ share self.old) }
         ensures told { IfErr result (λ cause. fault self.new ≡ Some cause) };
 
-    /// Lets the site take the frame that the bytes encode. An error returns the bytes too.
-    fn take(&mut self, rt: &R, bytes: Vec<u8>) -> Result<Receipt, (DeskFault, Vec<u8>)>
+    /// Lets the site take the frame that the bytes encode, and returns the receipt. The errors are those of the desk, and each
+    /// returns the bytes too.
+    fn take(&mut self, rt: &R, bytes: SharedBytes) -> Result<Receipt, (DeskFault, SharedBytes)>
         ensures made { IfOk result (λ receipt. makes self.old receipt self.new) }
         ensures refused { IfErr result (λ refused. refuses self.old refused.0 self.new) }
         ensures ordinal { ordinal self.new ≡ ordinal self.old }
-        ensures deed { IfOk result (λ receipt. IsOfTake bytes.items receipt) }
+        ensures deed { IfOk result (λ receipt. IsOfTake bytes receipt) }
         ensures pass { IfOk result (λ receipt. receipt.pass ≡ ordinal self.old) }
         ensures counted { IfOk result (λ receipt. share self.new ≡ share self.old + 1) }
         ensures well { IfOk result (λ receipt. fault self.new ≡ None) }
-        ensures back { IfErr result (λ refused. refused.1.items ≡ bytes.items) }
+        ensures back { IfErr result (λ refused. refused.1 ≡ bytes) }
         ensures kept { IfErr result (λ refused. share self.new ≡ share self.old) }
         ensures told { IfErr result (λ refused. fault self.new ≡ Some refused.0) };
 }
@@ -83,16 +86,4 @@ pub trait Bell<R> {
         ensures few { rings self.new ≤ MOST_COUNT }
         ensures goes_on { result ≡ true → ended self.new ≡ false }
         ensures ended { result ≡ false → ended self.new ≡ true };
-}
-
-/// A call that a desk makes while it holds the site's lock. With it tests see that sites run concurrently.
-pub trait Gate {
-    ghost use Rattle.std.specs.Prelude.{ℕ};
-
-    /// The effect of the gate's call: from the state before, it leads with this number to the state after.
-    ghost called: { Self → ℕ → Self → Type 0 };
-
-    /// Called once, with the number that the caller gave.
-    fn inside(&mut self, turn: u64)
-        ensures { called self.old turn self.new };
 }

@@ -1,7 +1,7 @@
 use thiserror::Error;
 
 /// Why a step that a store has kept was not done again. Where several causes apply, the first of this list is
-/// returned.
+/// returned, but `Memory` may replace `Damaged`.
 #[derive(Clone, Copy, Debug, PartialEq, Eq, Error)]
 pub enum ReplayFault {
     /// The journal holds its limit of steps, or 2^40 were done in all.

@@ -6,9 +6,11 @@ ghost use Rattle.site_journal.specs.Legal.{Leads};
 ghost use Rattle.site_journal.specs.Replaying.{CanCome, IsAgain, replay_fault_of};
 
 use crate::{DeskFault, Journaled, ReplayFault, Step, StepDeed};
+use dots::SharedBytes;
 
-// Lets the site take the frame that the bytes encode, by the pass of this number.
-fn take_again(journal: &mut Journaled, pass: u32, bytes: &[u8]) -> Result<Step, DeskFault>
+// Lets the site take the frame that the bytes encode, by the pass of this number. Errors as of `Journaled::take`; `Memory` also for
+// a copy of the bytes.
+fn take_again(journal: &mut Journaled, pass: u32, bytes: &SharedBytes) -> Result<Step, DeskFault>
     ensures added { IfOk result (λ done. HasAdded journal.old done journal.new) }
     ensures pass { IfOk result (λ done. done.pass ≡ pass) }
     ensures took { IfOk result (λ done. done.deed ≡ StepDeed.Took bytes.now) }
@@ -20,7 +22,7 @@ fn take_again(journal: &mut Journaled, pass: u32, bytes: &[u8]) -> Result<Step, 
     if journal.is_full() {
         return Err(DeskFault::JournalFull);
     }
-    let Ok(copy) = Vec::from_slice(journal.alloc, bytes) else {
+    let Ok(copy) = bytes.copy() else {
         return Err(DeskFault::Memory);
     };
     match journal.take(pass, copy) {
@@ -32,7 +34,7 @@ fn take_again(journal: &mut Journaled, pass: u32, bytes: &[u8]) -> Result<Step, 
     }
 }
 
-// Does again what a step did, by the same pass, and returns the new step.
+// Does again what a step did, by the same pass, and returns the new step. Errors as of `call`, `cut`, `whole` and `take`.
 fn done_again(journal: &mut Journaled, step: &Step) -> Result<Step, DeskFault>
     ensures added { IfOk result (λ done. HasAdded journal.old done journal.new) }
     ensures pass { IfOk result (λ done. done.pass ≡ step.now.pass) }
@@ -46,7 +48,7 @@ fn done_again(journal: &mut Journaled, step: &Step) -> Result<Step, DeskFault>
         StepDeed::Asked(asked, _) => journal.call(step.pass, asked),
         StepDeed::Cut(_) => journal.cut(step.pass),
         StepDeed::Whole(_) => journal.whole(step.pass),
-        StepDeed::Took(bytes) => take_again(journal, step.pass, bytes.as_slice()),
+        StepDeed::Took(bytes) => take_again(journal, step.pass, bytes),
     }
 }
 
@@ -62,10 +64,10 @@ fn replay_fault(fault: DeskFault, position: u64) -> ReplayFault
 }
 
 impl Journaled {
-    /// Does a stored step again, by the same pass: after `Ok` the journal has exactly this step more. After `Damaged` it may have a
-    /// different step more. Errors, in order: 1 `JournalFull`, exactly where the journal holds its limit of steps, or 2^40 were
-    /// done in all; 2 `Damaged` with the position of the step, exactly where the step can't be next: the site refuses it, or gives
-    /// another answer or other bytes; 3 `Memory`, which may replace `Damaged`.
+    /// Does a stored step again, by the same pass: after `Ok` the journal has exactly this step more, after `Damaged` it may have a
+    /// different one more, else none. Errors, in order: 1 `JournalFull`, exactly where the journal holds its limit of steps, or
+    /// 2^40 were done in all; 2 `Damaged` with the position of the step, only where the step can't be next: the site refuses it, or
+    /// gives another answer or other bytes; 3 `Memory`, which may replace `Damaged`.
     pub fn replay(&mut self, step: &Step) -> Result<(), ReplayFault>
         ensures added { OnOk result (HasAdded self.old step.now self.new) }
         ensures full { (result ≡ Err ReplayFault.JournalFull) ↔ IsFull self.old }

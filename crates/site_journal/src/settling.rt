@@ -40,7 +40,7 @@ fn is_list_of(steps: &[Step], pass: u32, list: &[Receipt]) -> bool
     next == list.len()
 }
 
-// The lesser of `found`, the least pass so far, and `pass`, of those that aren't below `from`, if there is one.
+// The least pass that isn't below `from`, of `pass` and of passes whose least is `found`. `None` if there is none.
 fn lesser(from: u32, found: Option<u32>, pass: u32) -> Option<u32>
     ensures { (steps : List Step) (step : Step) → step.pass ≡ pass → IsLeastPass from steps found
         → IsLeastPass from (steps ++ step ∷ []) result }
@@ -57,7 +57,7 @@ fn lesser(from: u32, found: Option<u32>, pass: u32) -> Option<u32>
     Some(pass)
 }
 
-// The least pass of `steps` that isn't below `from`, if there is one.
+// The least pass of `steps` that isn't below `from`. `None` if there is none.
 fn least_pass(steps: &[Step], from: u32) -> Option<u32>
     ensures { IsLeastPass from steps.now result }
 {

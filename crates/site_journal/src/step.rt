@@ -1,19 +1,19 @@
 ghost use Rattle.std.specs.Prelude.{◌≡◌, ◌↔◌, IfOk, IsTrue};
 
-use dots::{Bytes, Memory};
+use dots::{Memory, SharedBytes};
 use status_report::{Answer, Ask};
 
-/// A deed: what was done at a site. Frames are held as their bytes.
+/// A deed: what was done at a site. Frames are held as their bytes, which copies share.
 #[derive(Drop)]
 pub enum StepDeed {
     /// The site gave this answer to this ask.
     Asked(Ask, Answer),
     /// The site took the frame that these bytes encode.
-    Took(Bytes),
+    Took(SharedBytes),
     /// The site put its buffer into this frame, or the buffer was empty.
-    Cut(Option<Bytes>),
+    Cut(Option<SharedBytes>),
     /// The site put everything that it knows into this frame.
-    Whole(Bytes),
+    Whole(SharedBytes),
 }
 
 /// A step of a site: who did it, and what was done.

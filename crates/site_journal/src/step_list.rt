@@ -46,7 +46,8 @@ impl StepList {
         self.steps.push_reserved(step);
     }
 
-    // Takes all steps out.
+    // Takes all steps out and returns them, none dropped; no contract says what is
+    // returned. Takes no memory.
     pub fn take_all(&mut self) -> Vec<Step>
         ensures { self.new.steps.items ≡ [] }
     {

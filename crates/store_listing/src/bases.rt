@@ -1,4 +1,4 @@
-//! The words of a base.
+//! The words of a base. A function that runs out of memory may have appended a part.
 ghost use Rattle.std.specs.Prelude.{◌≡◌, ◌⊎◌, ◌<◌, ◌++◌, [], IfErr, IfOk, OnOk, length};
 ghost use Rattle.std.specs.Prelude.{slice_index_or};
 ghost use Rattle.replica.specs.Site.{rows_of};
@@ -15,7 +15,7 @@ use status_report::Queues;
 use std::alloc::Global;
 use stored_steps::{BaseFault, StoredBase, StoredRow, base_heading, base_of_row};
 
-/// The base that a row says. Errors as those of `base_heading`, and then as those of `base_of_row`.
+/// The base that a row says, of whatever site and queues. Errors, in order: those of `base_heading`; those of `base_of_row`.
 pub fn base_in(alloc: Global, row: &StoredRow) -> Result<StoredBase, BaseFault>
     ensures read { IfOk result (λ base. IsReadBase row.now base) }
     ensures fault { IfErr result (λ fault. (fault ≡ BaseFault.Memory)
@@ -27,7 +27,7 @@ pub fn base_in(alloc: Global, row: &StoredRow) -> Result<StoredBase, BaseFault>
     base
 }
 
-// How many members the queue of this number has.
+// How many members the queue of this number has. Fails only when out of memory.
 fn count_members(alloc: Global, replica: &Replica, number: u16) -> Result<usize, Memory>
     ensures { IfOk result (λ count. count ≡ length (rows_of replica.now number)) }
 {
@@ -35,7 +35,7 @@ fn count_members(alloc: Global, replica: &Replica, number: u16) -> Result<usize,
     Ok(rows.len())
 }
 
-// Appends the queue of this number, and how many members it has.
+// Appends the queue of this number, and how many members it has. Fails only when out of memory.
 fn push_members(
     alloc: Global,
     line: &mut Vec<u8>,
@@ -55,7 +55,7 @@ fn push_members(
     push_decimal(line, count as u64)
 }
 
-// Appends the queues of a site, each with how many members it has.
+// Appends the queues of a site, each with how many members it has. Fails only when out of memory.
 #[tactic(auto, using(crate::proofs::Members::members_more, crate::proofs::Members::members_all))]
 fn push_all_members(alloc: Global, line: &mut Vec<u8>, replica: &Replica) -> Result<(), Memory>
     ensures { OnOk result (line.new.items ≡ line.old.items ++ all_members replica.now) }
@@ -66,7 +66,7 @@ fn push_all_members(alloc: Global, line: &mut Vec<u8>, replica: &Replica) -> Res
     Ok(())
 }
 
-// Appends the site of a base, and the name of its store.
+// Appends the site of a base, and the name of its store in hexadecimal. Fails only when out of memory.
 fn push_store(line: &mut Vec<u8>, base: &StoredBase) -> Result<(), Memory>
     ensures { OnOk result (line.new.items ≡ line.old.items ++ store_words base.now) }
 {

@@ -1,4 +1,4 @@
-//! The words of a command.
+//! The words of a command. A function that runs out of memory may have appended a part.
 ghost use Rattle.std.specs.Prelude.{◌≡◌, ◌++◌, OnOk};
 ghost use Rattle.replica.specs.declared.command.Command.{Command};
 ghost use Rattle.store_listing.specs.Lines.{command_words, label_words, pause_words};
@@ -10,7 +10,7 @@ use ami_text::push_decimal;
 use dots::{Interface, Label, Memory, Pause, Penalty, QueueName};
 use replica::Command;
 
-// Appends the queue of a command: `*` stands for every queue.
+// Appends the queue of a command: `*` stands for every queue. Fails only when out of memory.
 fn push_queue(line: &mut Vec<u8>, queue: &Option<QueueName>) -> Result<(), Memory>
     ensures { OnOk result (line.new.items ≡ line.old.items ++ queue_word queue.now) }
 {
@@ -20,7 +20,7 @@ fn push_queue(line: &mut Vec<u8>, queue: &Option<QueueName>) -> Result<(), Memor
     }
 }
 
-// Appends a penalty.
+// Appends a penalty. Fails only when out of memory.
 fn push_penalty(line: &mut Vec<u8>, penalty: Penalty) -> Result<(), Memory>
     ensures { OnOk result (line.new.items ≡ line.old.items ++ penalty_words penalty) }
 {
@@ -28,7 +28,7 @@ fn push_penalty(line: &mut Vec<u8>, penalty: Penalty) -> Result<(), Memory>
     push_decimal(line, u64::from(penalty.get()))
 }
 
-// Appends whether a member is paused.
+// Appends whether a member is paused. Fails only when out of memory.
 fn push_paused(line: &mut Vec<u8>, paused: bool) -> Result<(), Memory>
     ensures { OnOk result (line.new.items ≡ line.old.items ++ paused_words paused) }
 {
@@ -36,7 +36,7 @@ fn push_paused(line: &mut Vec<u8>, paused: bool) -> Result<(), Memory>
     push_yes_or_no(line, paused)
 }
 
-// Appends the member name and the state interface.
+// Appends the member name and the state interface, each if it has a byte. Fails only when out of memory.
 fn push_label(line: &mut Vec<u8>, label: &Label) -> Result<(), Memory>
     ensures { OnOk result (line.new.items ≡ line.old.items ++ label_words label.now) }
 {
@@ -44,7 +44,7 @@ fn push_label(line: &mut Vec<u8>, label: &Label) -> Result<(), Memory>
     push_field(line, b"state", label.state.as_bytes())
 }
 
-// Appends whether a member is paused, and the reason.
+// Appends whether a member is paused, and the reason if it has a byte. Fails only when out of memory.
 fn push_pause(line: &mut Vec<u8>, pause: &Pause) -> Result<(), Memory>
     ensures { OnOk result (line.new.items ≡ line.old.items ++ pause_words pause.now) }
 {
@@ -52,7 +52,7 @@ fn push_pause(line: &mut Vec<u8>, pause: &Pause) -> Result<(), Memory>
     push_field(line, b"reason", pause.reason().as_bytes())
 }
 
-// Appends whether a member is rung while its device is in use.
+// Appends whether a member is rung while its device is in use. Fails only when out of memory.
 fn push_ring(line: &mut Vec<u8>, ring: bool) -> Result<(), Memory>
     ensures { OnOk result (line.new.items ≡ line.old.items ++ ring_words ring) }
 {
@@ -60,7 +60,7 @@ fn push_ring(line: &mut Vec<u8>, ring: bool) -> Result<(), Memory>
     push_yes_or_no(line, ring)
 }
 
-// Appends the words of an add.
+// Appends the words of an add. Fails only when out of memory.
 fn push_add(
     line: &mut Vec<u8>,
     queue: &QueueName,
@@ -80,7 +80,7 @@ fn push_add(
     push_label(line, label)
 }
 
-// Appends the action of a command over one queue or every one, its queue and its interface.
+// Appends the action of a command over one queue or every one, its queue and its interface. Fails only when out of memory.
 fn push_setting(
     line: &mut Vec<u8>,
     action: &[u8],

@@ -1,4 +1,4 @@
-//! The words of a frame, and the line of its bytes.
+//! The words of a frame, and the line of its bytes. A function that appends may have appended a part when it runs out of memory.
 ghost use Rattle.std.specs.Prelude.{◌≡◌, ◌⊎◌, ◌++◌, IfErr, IfOk, OnOk};
 ghost use Rattle.std.specs.FinSet as set;
 ghost use Rattle.delta_codec.specs.Frames.{Spells};
@@ -39,7 +39,7 @@ fn count_dots(context: &Context) -> u64
     dots
 }
 
-// Decodes bytes that are exactly one frame.
+// Decodes bytes that are exactly one frame. Errors, in order: those of `decode`; `BadRange`, if more bytes follow the frame.
 fn frame_in(alloc: Global, bytes: &[u8]) -> Result<Frame, DecodeFault>
     ensures value { IfOk result (λ frame. Spells frame bytes.now) }
     ensures fault { IfErr result (λ fault. (fault ≡ DecodeFault.Memory)
@@ -66,7 +66,7 @@ fn summary_of(frame: &Frame) -> FrameSummary
     }
 }
 
-// What is shown of the frame that bytes are.
+// What is shown of the frame that bytes are. Errors as of `frame_in`.
 fn summary_in(alloc: Global, bytes: &[u8]) -> Result<FrameSummary, DecodeFault>
     ensures value { IfOk result (λ summary. IsSummary bytes.now summary) }
     ensures fault { IfErr result (λ fault. (fault ≡ DecodeFault.Memory)
@@ -78,8 +78,8 @@ fn summary_in(alloc: Global, bytes: &[u8]) -> Result<FrameSummary, DecodeFault>
     Ok(summary)
 }
 
-/// What is shown of the frame that the bytes of the row of this position are. Errors, in order: `Frame`, if they aren't exactly one
-/// frame; `Memory`.
+/// What is shown of the frame that the bytes of the row of this position are. Errors: `Frame`, with the position and the fault, if
+/// they aren't exactly one frame; `Memory`, which may replace that.
 pub fn frame_summary(
     alloc: Global,
     position: u64,
@@ -95,7 +95,7 @@ pub fn frame_summary(
     }
 }
 
-// Appends the number of a frame, and its maker.
+// Appends the number of a frame, and its maker. Fails only when out of memory.
 fn push_heading(line: &mut Vec<u8>, summary: &FrameSummary) -> Result<(), Memory>
     ensures { OnOk result (line.new.items ≡ line.old.items ++ heading_words summary.now) }
 {
@@ -105,7 +105,7 @@ fn push_heading(line: &mut Vec<u8>, summary: &FrameSummary) -> Result<(), Memory
     push_decimal(line, u64::from(summary.maker.number()))
 }
 
-// Appends how many dots a frame knows, and how many of them are live.
+// Appends how many dots a frame knows, and how many of them are live. Fails only when out of memory.
 fn push_counts(line: &mut Vec<u8>, summary: &FrameSummary) -> Result<(), Memory>
     ensures { OnOk result (line.new.items ≡ line.old.items ++ count_words summary.now) }
 {

@@ -15,7 +15,7 @@ use crate::bases::{base_in, push_base};
 use crate::commands::push_command;
 use crate::frames::{FrameSummary, frame_summary, push_bytes, push_frame};
 use ami_text::push_decimal;
-use dots::{Bytes, Memory};
+use dots::{Memory, SharedBytes};
 use replica::Command;
 use site_journal::{Step, StepDeed};
 use status_report::{Answer, Ask};
@@ -25,7 +25,7 @@ use stored_steps::{BaseFault, RowFault, RowKind, StoredBase, StoredRow, step_of_
 // The room in bytes that a line has at first: most need no more.
 const LINE_ROOM: usize = 128;
 
-// The start of a line: the position of its row, and a space.
+// The start of a line: the position of its row, and a space. Fails only when out of memory.
 fn begin_line(alloc: Global, position: u64) -> Result<Vec<u8>, Memory>
     ensures { IfOk result (λ line. line.items ≡ decimal position ++ codes " ") }
 {
@@ -35,7 +35,7 @@ fn begin_line(alloc: Global, position: u64) -> Result<Vec<u8>, Memory>
     Ok(line)
 }
 
-// The start of the line of a step: the position of its row, and its pass.
+// The start of the line of a step: the position of its row, and its pass. Fails only when out of memory.
 fn begin_step(alloc: Global, position: u64, pass: u32) -> Result<Vec<u8>, Memory>
     ensures { IfOk result (λ line. line.items ≡ step_front position pass) }
 {
@@ -46,7 +46,7 @@ fn begin_step(alloc: Global, position: u64, pass: u32) -> Result<Vec<u8>, Memory
     Ok(line)
 }
 
-// The line of a start.
+// The line of a start. Fails only when out of memory.
 #[tactic(auto, using(crate::proofs::Pieces::line_ended))]
 fn start_line(alloc: Global, position: u64) -> Result<Vec<u8>, Memory>
     ensures { IfOk result (λ line. line.items ≡ start_line position) }
@@ -56,7 +56,7 @@ fn start_line(alloc: Global, position: u64) -> Result<Vec<u8>, Memory>
     Ok(line)
 }
 
-// The line of a base.
+// The line of a base. Fails only when out of memory.
 #[tactic(auto, using(crate::proofs::Pieces::line_ended))]
 fn base_line(alloc: Global, position: u64, base: &StoredBase) -> Result<Vec<u8>, ListingFault>
     ensures value { IfOk result (λ line. line.items ≡ base_line position base.now) }
@@ -68,7 +68,7 @@ fn base_line(alloc: Global, position: u64, base: &StoredBase) -> Result<Vec<u8>,
     Ok(line)
 }
 
-// The line of a command that is done.
+// The line of a command that is done. Fails only when out of memory.
 #[tactic(auto, using(crate::proofs::Pieces::ask_ended))]
 fn ask_line(
     alloc: Global,
@@ -85,7 +85,7 @@ fn ask_line(
     Ok(line)
 }
 
-// Appends the words of a frame of this size, moved as this word says, and the end of the line.
+// Appends the words of a frame of this size in bytes, moved as this word says, and the end of the line. Fails only when out of memory.
 fn push_moved(
     line: &mut Vec<u8>,
     moved: &[u8],
@@ -101,13 +101,14 @@ fn push_moved(
     line.extend_from_slice(b"\n")
 }
 
-// The line of a frame that was moved as this word says, and the line of its bytes, where frames are shown.
+// The line of a frame that was moved as this word says, and the line of its bytes, where frames are shown. Errors: `Frame`, if the
+// bytes aren't exactly one frame; `Memory`, which may replace that.
 fn frame_lines(
     alloc: Global,
     position: u64,
     pass: u32,
     moved: &[u8],
-    bytes: &Bytes,
+    bytes: &SharedBytes,
     with_frames: bool,
 ) -> Result<Vec<u8>, ListingFault>
     ensures value { IfOk result (λ text.
@@ -122,7 +123,7 @@ fn frame_lines(
     Ok(line)
 }
 
-// The text of a deed that has a row.
+// The text of a deed that has a row. Errors as of `frame_lines`; for a command only `Memory`.
 fn deed_text(
     alloc: Global,
     position: u64,
@@ -158,7 +159,8 @@ fn row_fault(position: u64, fault: RowFault) -> ListingFault
     }
 }
 
-// The text of a row that is neither a base nor a start.
+// The text of a row that is neither a base nor a start. Errors, in order: `Row`, if it stands for no step; `Frame`, as of
+// `frame_lines`; `Memory`, which may replace `Frame`.
 fn step_text(
     alloc: Global,
     position: u64,
@@ -188,7 +190,7 @@ fn base_fault(position: u64, fault: BaseFault) -> ListingFault
     }
 }
 
-// The text of a row that has the kind of a base.
+// The text of a row that has the kind of a base. Errors: `Base`, if it is none; `Memory`, which may replace that.
 fn base_text(alloc: Global, position: u64, row: &StoredRow) -> Result<Vec<u8>, ListingFault>
     requires { row.now.kind ≡ kind_number RowKind.Base }
     ensures value { IfOk result (λ text. IsBaseText position row.now text.items) }
@@ -205,7 +207,7 @@ fn base_text(alloc: Global, position: u64, row: &StoredRow) -> Result<Vec<u8>, L
 
 /// The text of the row of this position: its line, and the line of its frame, if it has one and frames are shown. Errors, in order:
 /// `Base`, if it has the kind of a base and is none; `Row`, if it is neither a base nor a start and stands for no step; `Frame`, if its
-/// body isn't exactly one frame where it should be; `Memory`.
+/// body isn't exactly one frame where it should be; `Memory`, which may replace `Base` and `Frame`.
 pub fn row_text(
     alloc: Global,
     position: u64,

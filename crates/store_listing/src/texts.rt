@@ -1,4 +1,4 @@
-//! Texts and fields in a line.
+//! Texts and fields in a line. A function that runs out of memory may have appended a part.
 ghost use Rattle.std.specs.Prelude.{◌≡◌, ◌++◌, OnOk};
 ghost use Rattle.hex.specs.Hex.{encode_lower};
 ghost use Rattle.store_listing.specs.Texts.{field, is_shown_plain, shown, shown_byte, word};
@@ -21,7 +21,8 @@ pub fn push_hex(line: &mut Vec<u8>, bytes: &[u8]) -> Result<(), Memory>
     line.extend_from_slice(digits.as_bytes())
 }
 
-// Appends a byte of a text.
+// Appends a byte of a text: as it is, or as `\x` and two hexadecimal digits. Fails only when out of
+// memory.
 fn push_byte(line: &mut Vec<u8>, byte: u8) -> Result<(), Memory>
     ensures { OnOk result (line.new.items ≡ line.old.items ++ shown_byte byte) }
 {
@@ -33,7 +34,7 @@ fn push_byte(line: &mut Vec<u8>, byte: u8) -> Result<(), Memory>
     push_hex(line, &[byte])
 }
 
-// Appends a text, byte by byte.
+// Appends a text, byte by byte. Fails only when out of memory.
 #[tactic(auto, using(crate::proofs::Pieces::shown_more))]
 fn push_shown(line: &mut Vec<u8>, text: &[u8]) -> Result<(), Memory>
     ensures { OnOk result (line.new.items ≡ line.old.items ++ shown text.now) }

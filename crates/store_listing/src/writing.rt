@@ -9,7 +9,8 @@ use ami_text::{Sink, write_all};
 use std::alloc::Global;
 use stored_steps::StoredRow;
 
-// Writes the text of the row of this position.
+// Writes the text of the row of this position. Errors, in order: those of `row_text`, and then nothing is written; `Write`, if the writer
+// fails or takes no bytes, and then a prefix of the text was written.
 #[tactic(auto, using(crate::proofs::Endings::none_begun))]
 fn write_row<W: Sink>(
     alloc: Global,
@@ -31,14 +32,14 @@ fn write_row<W: Sink>(
     write_all(out, &text).map_err(|_| ListingFault::Write)
 }
 
-/// Writes the rows of a store in words, the first of which has the position `first`: a line for each, in order. With frames, the line
-/// of a step with a frame is followed by the line of the frame's bytes, in lower-case hexadecimal.
+/// Writes the rows of a store in words to a writer that has not failed; the first row has the position `first`: a line for each, in order.
+/// With frames, the line of a step with a frame is followed by the line of the frame's bytes, in lower-case hexadecimal.
 ///
 /// Errors, at the first row with one, whose text is left out: `Base`, if it has the kind of a base and is none, with the fault of
 /// `base_heading` or `base_of_row`; `Row`, if it is neither a base nor a start and stands for no step, with the fault of `step_of_row`;
 /// `Frame`, if its body should be a frame and isn't exactly one, with the fault of `decode`, or `BadRange` if more bytes follow; `Memory`,
-/// which may replace each of these; `Write`, if the writer fails or takes no bytes, and then a prefix of the row's text was
-/// written. The text of all rows before it was written.
+/// which may replace `Base` and `Frame`; `Write`, if the writer fails or takes no bytes, and then a prefix of the row's text was written.
+/// The text of all rows before it was written.
 #[tactic(auto, using(crate::proofs::Endings::none_written, crate::proofs::Endings::more_written, crate::proofs::Endings::stopped_at))]
 pub fn write_steps<W: Sink>(
     alloc: Global,

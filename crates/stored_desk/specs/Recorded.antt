@@ -13,7 +13,7 @@ pub record RecordedState : Type 0 where
   pub history : List Step
   pub lost : Bool
 
--- it is stored as the tuple of its fields
+-- what is seen of a site is stored as the tuple of its fields
 abbrev pub recorded_code : Coded RecordedState
 recorded_code =
     code_by (JournalState × (List Step × Bool)) (coded× journal_code (coded× (coded_list step.the_row.coded) coded_bool))

@@ -5,12 +5,13 @@ ghost use Rattle.site_desk.specs.Passes.{step_of};
 
 use crate::StoredLedger;
 use crate::history::{HistoryPrefix, HistoryWriter};
+use dots::SharedBytes;
 use site_journal::{DeskFault, Receipt, StepDeed};
 use std::marker::Model;
 use std::mem;
 
 // A step that is done in memory, and that stands in the history. It is seen as its receipt, which doesn't leave the site before the step
-// is saved.
+// is saved, unless the step is a take.
 #[derive(Drop)]
 pub(crate) struct Done<L: StoredLedger> {
     pub(crate) receipt: Receipt,
@@ -30,14 +31,14 @@ impl<L: StoredLedger> Model for Done<L> {
 }
 
 impl<L: StoredLedger> Done<L> {
-    // How many steps there are up to its own.
+    // How many steps there are up to its own, that included. No contract says this.
     pub fn end(&self) -> u64 {
         self.receipt.position.saturating_add(1)
     }
 }
 
-// Adds the step of a receipt, which comes next, to a history. Where the history has gone on elsewhere, the step is lost, and the receipt
-// comes back.
+// Adds the step of a receipt, which is the next, to a history. Where the history has gone on elsewhere, or has 2^40 steps, the step is
+// lost: `is_lost` is set, and the receipt comes back.
 fn record_or_return<L: StoredLedger>(
     prefix: &mut HistoryPrefix<L>,
     writer: &HistoryWriter<L>,
@@ -64,8 +65,8 @@ fn record_or_return<L: StoredLedger>(
     })
 }
 
-// Adds the step of a receipt, which comes next, to a history. Where the history has gone on elsewhere, the step is lost: the fault is
-// `Unsaved`.
+// Adds the step of a receipt, which is the next, to a history. Where the history has gone on elsewhere, or has 2^40 steps, the step is
+// lost: `is_lost` is set, and the fault is `Unsaved`.
 pub(crate) fn record<L: StoredLedger>(
     prefix: &mut HistoryPrefix<L>,
     writer: &HistoryWriter<L>,
@@ -89,23 +90,23 @@ pub(crate) fn record<L: StoredLedger>(
 }
 
 // The bytes of the frame that was taken.
-fn bytes_of(receipt: Receipt) -> Vec<u8>
+fn bytes_of(receipt: Receipt) -> SharedBytes
     requires took { (bytes : List ℕ) × IsOfTake bytes receipt }
-    ensures bytes { (bytes : List ℕ) → IsOfTake bytes receipt → result.items ≡ bytes }
+    ensures bytes { (bytes : List ℕ) → IsOfTake bytes receipt → result ≡ bytes }
 {
     match receipt.deed {
-        StepDeed::Took(bytes) => bytes.into_vec(),
+        StepDeed::Took(bytes) => bytes,
         _ => unreachable!(),
     }
 }
 
-// As `record`, of a take, whose bytes come back where the step is lost.
+// Does as `record` for a take, whose bytes come back with the fault.
 pub(crate) fn record_take<L: StoredLedger>(
     prefix: &mut HistoryPrefix<L>,
     writer: &HistoryWriter<L>,
     is_lost: &mut bool,
     receipt: Receipt,
-) -> Result<Done<L>, (DeskFault, Vec<u8>)>
+) -> Result<Done<L>, (DeskFault, SharedBytes)>
     requires next { receipt.position ≡ length prefix.old }
     requires took { (bytes : List ℕ) × IsOfTake bytes receipt }
     ensures receipt { IfOk result (λ done. done ≡ receipt) }
@@ -114,7 +115,7 @@ pub(crate) fn record_take<L: StoredLedger>(
     ensures lost { OnErr result (is_lost.new ≡ true) }
     ensures fault { IfErr result (λ refused. refused.0 ≡ DeskFault.Unsaved) }
     ensures back { (bytes : List ℕ) → IsOfTake bytes receipt
-        → IfErr result (λ refused. refused.1.items ≡ bytes) }
+        → IfErr result (λ refused. refused.1 ≡ bytes) }
 {
     match record_or_return(prefix, writer, is_lost, receipt) {
         Ok(done) => Ok(done),

@@ -79,7 +79,7 @@ impl Model for NewHistory {
 }
 
 impl NewHistory {
-    /// A new history.
+    /// A new history, without a step. It takes no memory.
     pub fn new() -> NewHistory {
         let (seen, mut first, _second) = Seen::open(Start::alone(), 0, 0);
         NewHistory {
@@ -154,7 +154,7 @@ impl<L: StoredLedger> HistoryPrefix<L> {
         }
     }
 
-    // Of two prefixes of one history the longer begins with the shorter. It does nothing.
+    // Shows to the proof that of two prefixes of one history the longer begins with the shorter. It changes nothing.
     pub fn compare(&self, other: &HistoryPrefix<L>)
         ensures this { length self.now ≤ length other.now → IsPrefix self.now other.now }
         ensures that { length other.now ≤ length self.now → IsPrefix other.now self.now }
@@ -163,7 +163,8 @@ impl<L: StoredLedger> HistoryPrefix<L> {
         both.learn(&other.seen);
     }
 
-    // Adds the step of a receipt. Returns whether it did: not where the history is longer, or has 2^40 steps.
+    // Adds the step of a receipt to the history and to this prefix. Returns `false` where the history is longer than the prefix, or
+    // has 2^40 steps: then it adds nothing, and no contract says which prefix this is.
     pub fn append(&mut self, writer: &HistoryWriter<L>, receipt: &Receipt) -> bool
         ensures { IsTrue result → self.new ≡ self.old ++ step_of receipt.now ∷ [] }
     {

@@ -67,7 +67,7 @@ type MarkCell = RuledSeqCell<[u64; 1], MarkView, MarkRule, 1>;
 
 type MarkPass = Pass<[u64; 1], MarkView>;
 
-// Sets the cell, by the keeper's pass, which may have taken in a claim.
+// Sets the cell to `saved`, which is no less than before, by the keeper's pass. A claim that this has taken in is forgotten.
 fn set<R: Wait>(cell: &MarkCell, rt: &R, pass: &mut MarkPass, saved: u64)
     requires cell { pass.old.table_id ≡ cell.now.table.shared.table_id }
     requires keeper { (cell_view pass.old).keeps ≡ true }
@@ -79,7 +79,7 @@ fn set<R: Wait>(cell: &MarkCell, rt: &R, pass: &mut MarkPass, saved: u64)
     cell.swap_as::<Raise, R>(rt, pass, [saved]);
 }
 
-// The keeper's pass takes in that of a claim.
+// The keeper's pass takes in that of a claim, with which no slot of the cell is out (`me.1`). A claim taken in before is forgotten.
 fn take_in(cell: &MarkCell, keeper: &mut MarkPass, claim: MarkPass)
     requires cell { keeper.old.table_id ≡ cell.now.table.shared.table_id }
     requires claim { claim.table_id ≡ keeper.old.table_id }
@@ -171,7 +171,7 @@ impl<L: StoredLedger> Model for Keeper<L> {
         × (cell_view k.pass ≡ keeper_at (cell_view k.pass).saved) };
 }
 
-// That at least a number of steps is saved, of which others get claims. It is seen as that number.
+// The knowledge that at least a number of steps is saved, from which others get claims. It is seen as that number.
 #[derive(Drop)]
 pub(crate) struct SharedClaim<L: StoredLedger> {
     pass: MarkPass,
@@ -190,7 +190,7 @@ impl<L: StoredLedger> Model for SharedClaim<L> {
     ghost invariant = { λ c. c.pass.table_id ≡ L.mark };
 }
 
-// That at least a number of steps is saved. It is seen as that number.
+// The knowledge that at least a number of steps is saved. It is seen as that number.
 #[derive(Drop)]
 pub(crate) struct Claim<L: StoredLedger> {
     pass: MarkPass,
@@ -217,7 +217,7 @@ pub(crate) struct Mark<L: StoredLedger> {
 }
 
 impl<L: StoredLedger> Mark<L> {
-    // Raises the mark.
+    // Raises the mark to `saved`, which is at least what it was.
     pub fn raise<R: Wait>(&self, rt: &R, keeper: &mut Keeper<L>, saved: u64)
         requires { keeper.old ≤ saved }
         ensures { keeper.new ≡ saved }
@@ -247,7 +247,7 @@ impl<L: StoredLedger> Mark<L> {
         }
     }
 
-    // What is claimed is saved. `saved` is the number that the mark has.
+    // Shows to the proof that what is claimed is saved. `saved` is the number that the mark has, which stays.
     pub fn confirm<R: Wait>(&self, rt: &R, keeper: &mut Keeper<L>, claim: Claim<L>, saved: u64)
         requires { saved ≡ keeper.old }
         ensures same { keeper.new ≡ keeper.old }

@@ -14,7 +14,7 @@ ghost use Rattle.stored_desk.specs.Recorded.{IsGroupOfRest, IsLegalHistory, IsRe
 use crate::done::{Done, record, record_take};
 use crate::history::{HistoryPrefix, HistoryWriter};
 use crate::{StepStore, StoredLedger};
-use dots::Memory;
+use dots::{Memory, SharedBytes};
 use replica::Replica;
 use site_desk::{GuardedJournal, Pass};
 use site_journal::{DecodeFault, DecodedFrame, DeskFault, TakeFault};
@@ -56,7 +56,7 @@ fn checkpoint<L: StoredLedger>(journal: &mut GuardedJournal<L>) -> Result<(), Me
 }
 
 impl<L: StoredLedger> RecordedSite<L> {
-    // A site that has done no step, with its history.
+    // A site with its history, which has each step that the journal has counted (`recorded`); `new` of the desk makes it without a step.
     pub fn new(
         journal: GuardedJournal<L>,
         writer: HistoryWriter<L>,
@@ -90,17 +90,18 @@ impl<L: StoredLedger> RecordedSite<L> {
         self.journal.journal().len()
     }
 
-    // How many bytes the journal's steps keep beside themselves.
+    // How many bytes the journal's steps keep beside themselves, at most 2^64 - 1. No contract says how many.
     pub fn payload_bytes(&self) -> u64 {
         self.journal.journal().payload_bytes()
     }
 
-    // How many bytes the steps keep beside themselves that were done since steps were last taken for a commit.
+    // How many bytes the steps keep beside themselves that were done since steps were last taken for a commit. No contract says how many.
     pub fn untaken_bytes(&self) -> u64 {
         self.payload_bytes().saturating_sub(self.taken_bytes)
     }
 
-    // The fault of a call that fails with `fault` wherever the journal lets it begin.
+    // The fault of a call that fails with `fault` unless the journal refuses it before: 1 `Rewound`, where the journal is shorter than the
+    // pass has seen; 2 `JournalFull`, where no step may be added; 3 `fault`.
     pub fn first_fault(&self, pass: &Pass<L>, fault: DeskFault) -> DeskFault
         ensures { IsRewound pass.now result
             ⊎ ((result ≡ DeskFault.JournalFull) ⊎ (result ≡ fault)) }
@@ -108,8 +109,9 @@ impl<L: StoredLedger> RecordedSite<L> {
         self.journal.first_fault(pass, fault)
     }
 
-    // Asks the site. `copy` is a copy of the ask for the receipt, if there was memory for it. Faults, in order: those of the journal;
-    // `Unsaved`, where the step or one before it isn't in the history.
+    // Asks the site. `copy` is a copy of the ask for the receipt, if there was memory for it. Faults, in order: 1 `Unsaved`, where a step
+    // before it isn't in the history; 2 those of `GuardedJournal::call`; 3 `Unsaved`, where its own step, which was done, can't be added to
+    // the history. After 1 and 2 no step was done.
     pub fn call(
         &mut self,
         pass: &mut Pass<L>,
@@ -144,7 +146,7 @@ impl<L: StoredLedger> RecordedSite<L> {
         record(prefix, writer, is_lost, receipt)
     }
 
-    // Puts the site's buffer into its next frame, if there is something in it. Faults as of a call.
+    // Puts the site's buffer into its next frame, if there is something in it. Faults as of a call, with 2 as of `GuardedJournal::cut`.
     pub fn cut(&mut self, pass: &mut Pass<L>) -> Result<Done<L>, DeskFault>
         ensures done { IfOk result (λ done. HasDone pass.old done pass.new) }
         ensures added { IfOk result (λ done.
@@ -172,7 +174,7 @@ impl<L: StoredLedger> RecordedSite<L> {
         record(prefix, writer, is_lost, receipt)
     }
 
-    // Puts all that the site knows into its next frame. Faults as of a call.
+    // Puts all that the site knows into its next frame. Faults as of a call, with 2 as of `GuardedJournal::whole`.
     pub fn whole(&mut self, pass: &mut Pass<L>) -> Result<Done<L>, DeskFault>
         ensures done { IfOk result (λ done. HasDone pass.old done pass.new) }
         ensures added { IfOk result (λ done.
@@ -200,12 +202,12 @@ impl<L: StoredLedger> RecordedSite<L> {
         record(prefix, writer, is_lost, receipt)
     }
 
-    // Lets the site take a decoded frame. Its bytes come back where it doesn't. Faults as of a call.
+    // Lets the site take a decoded frame. A fault returns the bytes. Faults as of a call, with 2 as of `GuardedJournal::take`.
     pub fn take(
         &mut self,
         pass: &mut Pass<L>,
         decoded: DecodedFrame,
-    ) -> Result<Done<L>, (DeskFault, Vec<u8>)>
+    ) -> Result<Done<L>, (DeskFault, SharedBytes)>
         ensures done { IfOk result (λ done. HasDone pass.old done pass.new) }
         ensures added { IfOk result (λ done.
             HasAdded self.old.journal (step_of done) self.new.journal) }
@@ -221,7 +223,7 @@ impl<L: StoredLedger> RecordedSite<L> {
         ensures fails { IfErr result (λ refused. FailsUnsaved L.base pass.old refused.0 pass.new) }
         ensures only { IfErr result (λ refused. IsRewound pass.old refused.0
             ⊎ (RefusesTake refused.0 ⊎ (refused.0 ≡ DeskFault.Unsaved))) }
-        ensures back { IfErr result (λ refused. refused.1.items ≡ decoded) }
+        ensures back { IfErr result (λ refused. refused.1 ≡ decoded) }
     {
         if self.is_lost {
             return Err((DeskFault::Unsaved, decoded.into_bytes()));
@@ -240,8 +242,8 @@ impl<L: StoredLedger> RecordedSite<L> {
         record_take(prefix, writer, is_lost, receipt)
     }
 
-    // The steps behind the first `saved`, made ready for a commit, with the whole history. Faults, in order: 1 `Unsaved`, where a step isn't
-    // in the history, or the journal has dropped one of them; 2 `Memory`.
+    // The steps behind the first `saved`, made ready for a commit, with the whole history. Faults, in order: 1 `Unsaved`, where a step
+    // isn't in the history, the journal has dropped one of them, or fewer than `saved` were done; 2 `Memory`.
     fn rest<S: StepStore>(
         &self,
         store: &S,
@@ -265,7 +267,7 @@ impl<L: StoredLedger> RecordedSite<L> {
         }
     }
 
-    // As `rest`. What it returns counts as taken for a commit.
+    // Does as `rest`, with its faults, and notes that these steps are taken for a commit.
     fn take_rest<S: StepStore>(
         &mut self,
         store: &S,
@@ -283,7 +285,7 @@ impl<L: StoredLedger> RecordedSite<L> {
         Ok(rest)
     }
 
-    // Drops the journal's steps. The fault is `Memory`, and none is dropped.
+    // Drops the journal's steps, and sets `taken_bytes` to 0 with them (no contract says this). The fault is `Memory`, and none is dropped.
     fn drop_steps(&mut self) -> Result<(), DeskFault>
         ensures dropped { OnOk result (HasDropped self.old.journal self.new.journal) }
         ensures unchanged { OnErr result (self.new ≡ self.old) }
@@ -304,7 +306,8 @@ impl<L: StoredLedger> RecordedSite<L> {
         }
     }
 
-    // As `take_rest`, and drops the journal's steps. `Memory` may also be for that: then none is dropped.
+    // Does as `rest`, and drops the journal's steps. Faults, in order: 1 those of `rest`; 2 `Memory`, where there is none for the drop. A
+    // fault changes nothing.
     fn take_all<S: StepStore>(
         &mut self,
         store: &S,
@@ -327,7 +330,7 @@ impl<L: StoredLedger> RecordedSite<L> {
         Ok(rest)
     }
 
-    // As `take_all` with `drops`, and else as `take_rest`.
+    // Does as `take_all` with `drops`, and else as `take_rest`, with their faults. A fault changes nothing.
     pub fn take_steps<S: StepStore>(
         &mut self,
         store: &S,
@@ -362,7 +365,8 @@ impl<L: StoredLedger> RecordedSite<L> {
         }
     }
 
-    // As `take_all`, and with a copy of the site after the whole history.
+    // As `take_all`, and with a copy of the site after the whole history. Faults, in order: 1 those of `copy`; 2 those of `take_all`. A
+    // fault changes nothing.
     pub fn take_base<S: StepStore>(
         &mut self,
         store: &S,

@@ -56,31 +56,33 @@ impl<S: StepStore, L: StoredLedger> Shelf<S, L> {
         self.saved
     }
 
-    // Why a commit has failed, if one has.
+    // Why a commit has failed, if one has. No contract says this.
     pub fn fault(&self) -> Option<CommitFault> {
         self.fault
     }
 
-    // How much the store had stored since its base when it last came back.
+    // How much the store had stored since its base when it last came back. No contract says how much.
     pub fn since_base(&self) -> Growth {
         self.since_base
     }
 
-    // Whether a thread has nothing to wait for that needs as many steps saved.
+    // Whether a thread that needs the first `wanted` steps saved need not wait: the vault is here, or they are
+    // saved.
     pub fn is_ready(&self, wanted: u64) -> bool
         ensures { IsTrue result ↔ ((self.now.has_vault ≡ true) ⊎ (wanted ≤ self.now.saved)) }
     {
         self.vault.is_some() || wanted <= self.saved
     }
 
-    // Takes the vault out.
+    // Takes the vault out; `None` if a thread has it.
     pub fn take(&mut self) -> Option<Vault<S, L>>
         ensures { self.new.saved ≡ self.old.saved }
     {
         self.vault.take()
     }
 
-    // Puts the vault back, and shows how many steps are saved.
+    // Puts the vault back, and shows how many steps are saved, why a commit has failed, and the store's growth. No
+    // contract says the last two.
     pub fn put(&mut self, vault: Vault<S, L>, mark: &Mark<L>)
         ensures saved { self.new.saved ≡ length vault.list }
         ensures vault { self.new.has_vault ≡ true }
@@ -93,7 +95,7 @@ impl<S: StepStore, L: StoredLedger> Shelf<S, L> {
         self.vault = Some(vault);
     }
 
-    // The settled receipt of a step that is saved. One that isn't comes back.
+    // The settled receipt of a step, if it is saved. A step that isn't comes back.
     pub fn settled(&mut self, done: Done<L>, mark: &Mark<L>) -> Result<Settled<L>, Done<L>>
         ensures receipt { IfOk result (λ settled. settled ≡ done) }
         ensures back { IfErr result (λ back. back ≡ done) }
@@ -111,7 +113,7 @@ impl<S: StepStore, L: StoredLedger> Shelf<S, L> {
         })
     }
 
-    // Gives up the shelf for its vault.
+    // Gives up the shelf for its vault; `None` if a thread has it. No contract says which.
     pub fn into_vault(self) -> Option<Vault<S, L>> {
         let Shelf { vault, .. } = self;
         vault

@@ -63,8 +63,8 @@ pub trait StepStore: Drop {
     fn group(&self, steps: &[Step]) -> Result<Self::Group, Memory>
         ensures { IfOk result (λ group. groups group steps.now) };
 
-    /// Adds the steps of a group in one commit. After Ok they are durable. After an error it isn't known which of them the store has, and
-    /// no call follows.
+    /// Adds the steps of a group in one commit. After Ok they are durable. After an error, of which `CommitFault` is the cause, the steps
+    /// from before stay durable, it isn't known whether the store has those of the group, and no call follows.
     fn commit(&mut self, group: Self::Group) -> Result<(), CommitFault>
         ensures added { (list more : List Step) → holds self.old list → keeps self.old list
             → groups group more
@@ -78,7 +78,7 @@ pub trait StepStore: Drop {
         ensures { IfOk result (λ base. bases base site) };
 
     /// Puts a base in place of all its steps, in one commit: the site after them. The store still stands for the same steps. After an
-    /// error no call follows.
+    /// error these stay durable, and no call follows.
     fn replace_base(&mut self, base: Self::Base) -> Result<(), CommitFault>
         ensures replaced { (list : List Step) → (site : SiteState) → holds self.old list
             → keeps self.old list → bases base site → LeadAll (begun self.old) list site
@@ -88,6 +88,6 @@ pub trait StepStore: Drop {
             → keeps self.new list }
         ensures begun { begun self.new ≡ begun self.old };
 
-    /// How much it has stored since its base. It takes no memory.
+    /// How much it has stored since its base; no contract says how much. It takes no memory.
     fn since_base(&self) -> Growth;
 }

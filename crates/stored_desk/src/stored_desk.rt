@@ -15,6 +15,7 @@ use crate::vault::Vault;
 use crate::{
     CommitFault, Growth, NewHistory, NewMark, SavedSteps, Settled, StepStore, StoredLedger,
 };
+use dots::SharedBytes;
 use site_desk::{Pass, SiteDesk};
 use site_journal::{DecodeFault, DecodedFrame, DeskFault, Receipt, TakeFault};
 use status_report::Ask;
@@ -59,8 +60,8 @@ impl<S: StepStore, L: StoredLedger> Model for StoredDesk<S, L> {
 }
 
 impl<S: StepStore, L: StoredLedger> StoredDesk<S, L> {
-    /// A desk that has done no step, over a store without a step. History and mark are new ones, which the ledger names. A desk that has
-    /// done steps comes back with the store. It takes no memory.
+    /// A desk that has done no step, over a store without a step that begins as the desk's site. History and mark are new ones, which the
+    /// ledger names. An error returns desk and store, where the desk has done a step, and drops the other two. It takes no memory.
     pub fn new(
         desk: SiteDesk<L>,
         store: S,
@@ -95,12 +96,12 @@ impl<S: StepStore, L: StoredLedger> StoredDesk<S, L> {
         })
     }
 
-    /// Why a commit of the store has failed, if one has. Calls that begin later do no step.
+    /// Why a commit of the store has failed, if one has. Calls that begin later do no step. It waits for no commit. No contract says this.
     pub fn fault<R: Wait>(&self, rt: &R) -> Option<CommitFault> {
         self.shelf.lock(rt).fault()
     }
 
-    // Saves all that the site has done, by the vault, in this way.
+    // Saves all that the site has done, by the vault, in this way. Faults as of `Vault::save_rest` and `Vault::save_base`.
     fn save_by<R: Wait>(&self, rt: &R, vault: &mut Vault<S, L>, way: Way) -> Result<(), DeskFault>
         ensures { IfErr result (λ fault.
             (fault ≡ DeskFault.Unsaved) ⊎ (fault ≡ DeskFault.Memory)) }
@@ -112,7 +113,9 @@ impl<S: StepStore, L: StoredLedger> StoredDesk<S, L> {
         }
     }
 
-    // Waits until the first `wanted` steps are saved, or saves all that the site has done, in this way.
+    // Waits until the first `wanted` steps are saved or the store is free; then, if they aren't saved, takes the store, saves all that the
+    // site has done, in this way, puts the store back, and wakes all who wait for it, after a fault too. The shelf isn't locked meanwhile.
+    // Faults as of `save_by`. No contract says what is saved.
     fn save_first<R: Wait>(&self, rt: &R, wanted: u64, way: Way) -> Result<(), DeskFault>
         ensures { IfErr result (λ fault.
             (fault ≡ DeskFault.Unsaved) ⊎ (fault ≡ DeskFault.Memory)) }
@@ -135,8 +138,9 @@ impl<S: StepStore, L: StoredLedger> StoredDesk<S, L> {
         saved
     }
 
-    // Makes ready for a step: where the unsaved steps keep more than 4 MiB beside themselves, it saves all that the site has done, so that
-    // no commit needs much more memory than that. Faults, in order: 1 `Unsaved`, where a commit has failed before; 2 those of the commit.
+    // Makes ready for a step: where the steps that no commit has taken keep more than 4 MiB beside themselves, it saves all that the site has
+    // done, so that no commit needs much more memory than that. Faults, in order: 1 `Unsaved`, where a commit has failed before; 2 those of
+    // `settle_all`.
     fn make_ready<R: Wait>(&self, rt: &R) -> Result<(), DeskFault>
         ensures { IfErr result (λ fault.
             (fault ≡ DeskFault.Unsaved) ⊎ (fault ≡ DeskFault.Memory)) }
@@ -150,7 +154,7 @@ impl<S: StepStore, L: StoredLedger> StoredDesk<S, L> {
         self.settle_all(rt)
     }
 
-    // The settled receipt of a step that is saved. The fault is `Unsaved`.
+    // The settled receipt of a step, if it is saved; else the fault is `Unsaved`.
     fn settled<R: Wait>(&self, rt: &R, done: Done<L>) -> Result<Settled<L>, DeskFault>
         ensures receipt { IfOk result (λ settled. settled ≡ done) }
         ensures fault { IfErr result (λ fault. fault ≡ DeskFault.Unsaved) }
@@ -164,7 +168,7 @@ impl<S: StepStore, L: StoredLedger> StoredDesk<S, L> {
         }
     }
 
-    // Saves the first `end` steps, and tries again while it is out of memory. The fault is `Unsaved`.
+    // Saves the first `end` steps, and tries again while it is out of memory. The fault is `Unsaved`: the store has failed.
     fn save_anyhow<R: Wait>(&self, rt: &R, end: u64) -> Result<(), DeskFault>
         ensures { IfErr result (λ fault. fault ≡ DeskFault.Unsaved) }
     {
@@ -178,7 +182,8 @@ impl<S: StepStore, L: StoredLedger> StoredDesk<S, L> {
         unreachable!()
     }
 
-    // As `settle`, but it doesn't give up when out of memory: what was cut into a frame isn't cut again, and no peer would get it.
+    // Does as `settle`, but tries again while it is out of memory: what was cut into a frame isn't cut again, and no peer would get it. The
+    // fault is `Unsaved`: the store has failed.
     fn settle_frame<R: Wait>(&self, rt: &R, done: Done<L>) -> Result<Settled<L>, DeskFault>
         ensures receipt { IfOk result (λ settled. settled ≡ done) }
         ensures fault { IfErr result (λ fault. fault ≡ DeskFault.Unsaved) }
@@ -190,7 +195,8 @@ impl<S: StepStore, L: StoredLedger> StoredDesk<S, L> {
         self.settled(rt, done)
     }
 
-    // Waits until a step is saved, or saves it with all others. The fault is `Unsaved` where the store has failed, and `Memory`.
+    // Waits until a step is saved, or saves it with all others. Errors, each of which drops the receipt, in order: 1 `Unsaved`, where a
+    // commit has failed before; 2 `Memory`, and a later call saves the step; 3 `Unsaved`, where the commit fails.
     fn settle<R: Wait>(&self, rt: &R, done: Done<L>) -> Result<Settled<L>, DeskFault>
         ensures receipt { IfOk result (λ settled. settled ≡ done) }
         ensures fault { IfErr result (λ fault.
@@ -250,8 +256,8 @@ impl<S: StepStore, L: StoredLedger> StoredDesk<S, L> {
         self.settle_frame(rt, done)
     }
 
-    /// Puts all that the site knows into its next frame, and returns the receipt once the step is durable. Errors as of a cut, but
-    /// `Exhausted` wherever the site has made 2^40 frames.
+    /// Puts all that the site knows into its next frame, and returns the receipt once the step is durable. As of a cut, its commit is tried
+    /// again while it is out of memory. Errors as of a cut, but `Exhausted` wherever the site has made 2^40 frames.
     pub fn whole<R: Wait>(&self, rt: &R, pass: &mut Pass<L>) -> Result<Settled<L>, DeskFault>
         ensures done { IfOk result (λ settled. HasDone pass.old settled pass.new) }
         ensures whole { IfOk result (λ settled. IsOfWhole settled) }
@@ -266,27 +272,29 @@ impl<S: StepStore, L: StoredLedger> StoredDesk<S, L> {
         self.settle_frame(rt, done)
     }
 
-    // Decodes the frame that bytes spell, for a take by this pass, and makes ready for a step. The bytes come back where it fails.
+    // Decodes the frame that bytes spell, for a take by this pass, and makes ready for a step. An error returns the bytes. Errors, in order:
+    // 1 `Unsaved`, where a commit has failed before; 2 where the bytes can't be decoded, `Rewound`, `JournalFull` and the fault of
+    // `DecodedFrame::decode`; 3 those of `make_ready`.
     fn decode_ready<R: Wait>(
         &self,
         rt: &R,
         pass: &Pass<L>,
-        bytes: Vec<u8>,
-    ) -> Result<DecodedFrame, (DeskFault, Vec<u8>)>
-        ensures value { IfOk result (λ decoded. decoded ≡ bytes.items) }
+        bytes: SharedBytes,
+    ) -> Result<DecodedFrame, (DeskFault, SharedBytes)>
+        ensures value { IfOk result (λ decoded. decoded ≡ bytes) }
         ensures decode { (fault : DecodeFault) → IsRefusedFor result (DeskFault.Decode fault)
-            → HasFaultAlone bytes.items fault }
+            → HasFaultAlone bytes fault }
         ensures no_take { (fault : TakeFault)
             → IsRefusedFor result (DeskFault.Take fault) → ⊥ }
-        ensures memory { IsRefusedFor result DeskFault.Memory → HasOpening bytes.items }
+        ensures memory { IsRefusedFor result DeskFault.Memory → HasOpening bytes }
         ensures only { IfErr result (λ refused. IsRewound pass.now refused.0
             ⊎ (RefusesTake refused.0 ⊎ (refused.0 ≡ DeskFault.Unsaved))) }
-        ensures back { IfErr result (λ refused. refused.1.items ≡ bytes.items) }
+        ensures back { IfErr result (λ refused. refused.1 ≡ bytes) }
     {
         if self.fault(rt).is_some() {
             return Err((DeskFault::Unsaved, bytes));
         }
-        let alloc = *bytes.allocator();
+        let alloc = bytes.allocator();
         let decoded = match DecodedFrame::decode(alloc, bytes) {
             Ok(decoded) => decoded,
             Err((fault, bytes)) => return Err((self.site.lock(rt).first_fault(pass, fault), bytes)),
@@ -297,33 +305,33 @@ impl<S: StepStore, L: StoredLedger> StoredDesk<S, L> {
         }
     }
 
-    /// Lets the site take the frame that bytes spell; they come back where it doesn't. The step is saved with a later one, or by
-    /// `settle_all`, and nobody waits for that: a receipt of a take says nothing that its caller didn't hand in. Where the unsaved steps keep
-    /// more than 4 MiB beside themselves, it saves them before its own step.
+    /// Lets the site take the frame that bytes spell. An error returns the bytes. The step is saved with a later one, or by `settle_all`, and
+    /// nobody waits for that: a receipt of a take says nothing that its caller didn't hand in. Where the unsaved steps keep more than 4 MiB
+    /// beside themselves, it saves them before its own step.
     ///
     /// Errors, in order: 1 `Unsaved`, where a commit has failed before; 2 where the bytes can't be decoded, `Rewound` and `JournalFull`, as
     /// of a call, and then `Decode`, with the fault of the bytes, or `BadRange` where more follows their frame; 3 `Memory` or `Unsaved`, where
     /// it can't save steps before its own; 4 `Rewound`; 5 `JournalFull`; 6 `Take`, with the fault for which the site refuses the frame.
-    /// `Memory` may also stand in place of a `Take`, and of a `Decode`, but never of one that comes up to the heading's end. After `Unsaved`
-    /// alone the step may have been done.
+    /// `Memory` may replace a `Take`, and a `Decode` whose fault is after a whole heading, but never one whose fault is in the heading. Only
+    /// after `Unsaved` the step may have been done.
     pub fn take<R: Wait>(
         &self,
         rt: &R,
         pass: &mut Pass<L>,
-        bytes: Vec<u8>,
-    ) -> Result<Receipt, (DeskFault, Vec<u8>)>
+        bytes: SharedBytes,
+    ) -> Result<Receipt, (DeskFault, SharedBytes)>
         ensures done { IfOk result (λ receipt. HasDone pass.old receipt pass.new) }
-        ensures took { IfOk result (λ receipt. IsOfTake bytes.items receipt) }
+        ensures took { IfOk result (λ receipt. IsOfTake bytes receipt) }
         ensures legal { IfOk result (λ receipt. IsLegalReceipt L.base receipt) }
         ensures decode { (fault : DecodeFault) → IsRefusedFor result (DeskFault.Decode fault)
-            → HasFaultAlone bytes.items fault }
+            → HasFaultAlone bytes fault }
         ensures refused { (fault : TakeFault) → IsRefusedFor result (DeskFault.Take fault)
-            → IsRefusedFrom L.base pass.old.seen bytes.items fault }
-        ensures memory { IsRefusedFor result DeskFault.Memory → HasOpening bytes.items }
+            → IsRefusedFrom L.base pass.old.seen bytes fault }
+        ensures memory { IsRefusedFor result DeskFault.Memory → HasOpening bytes }
         ensures fails { IfErr result (λ refused. FailsUnsaved L.base pass.old refused.0 pass.new) }
         ensures only { IfErr result (λ refused. IsRewound pass.old refused.0
             ⊎ (RefusesTake refused.0 ⊎ (refused.0 ≡ DeskFault.Unsaved))) }
-        ensures back { IfErr result (λ refused. refused.1.items ≡ bytes.items) }
+        ensures back { IfErr result (λ refused. refused.1 ≡ bytes) }
     {
         let decoded = match self.decode_ready(rt, pass, bytes) {
             Ok(decoded) => decoded,
@@ -339,8 +347,8 @@ impl<S: StepStore, L: StoredLedger> StoredDesk<S, L> {
         }
     }
 
-    /// Saves all that the site has done so far. Errors, in order: 1 `Unsaved`, where the store has failed and a step isn't saved; 2 `Memory`,
-    /// and a later call saves them.
+    /// Saves all that the site has done so far, or waits until others have. Errors, in order: 1 `Unsaved`, where a step isn't saved and a
+    /// commit has failed before; 2 `Memory`, and a later call saves them; 3 `Unsaved`, where the commit fails. No contract says what is saved.
     pub fn settle_all<R: Wait>(&self, rt: &R) -> Result<(), DeskFault>
         ensures { IfErr result (λ fault.
             (fault ≡ DeskFault.Unsaved) ⊎ (fault ≡ DeskFault.Memory)) }
@@ -350,7 +358,8 @@ impl<S: StepStore, L: StoredLedger> StoredDesk<S, L> {
     }
 
     /// Saves all that the site has done so far, and drops the steps of the journal; positions go on. Errors, in order: 1 `Unsaved`, where
-    /// the store has failed; 2 `Memory`, and no step is dropped.
+    /// the store has failed; 2 `Memory`, and no step is dropped; 3 `Unsaved`, where the commit fails: the steps are dropped from the journal
+    /// all the same. No contract says what is saved and dropped.
     pub fn checkpoint<R: Wait>(&self, rt: &R) -> Result<(), DeskFault>
         ensures { IfErr result (λ fault.
             (fault ≡ DeskFault.Unsaved) ⊎ (fault ≡ DeskFault.Memory)) }
@@ -363,7 +372,8 @@ impl<S: StepStore, L: StoredLedger> StoredDesk<S, L> {
     /// step to save waits for both.
     ///
     /// Errors, in order: 1 `Unsaved` and `Memory`, as of `checkpoint`; 2 `Memory`, where there is none for the base: the steps are saved and
-    /// dropped, the store keeps the base that it had, and later calls go on; 3 `Unsaved`, where the commit of the base fails.
+    /// dropped, the store keeps the base that it had, and later calls go on; 3 `Unsaved`, where the commit of the base fails. No contract says
+    /// what the store has then.
     pub fn replace_base<R: Wait>(&self, rt: &R) -> Result<(), DeskFault>
         ensures { IfErr result (λ fault.
             (fault ≡ DeskFault.Unsaved) ⊎ (fault ≡ DeskFault.Memory)) }
@@ -371,7 +381,8 @@ impl<S: StepStore, L: StoredLedger> StoredDesk<S, L> {
         self.save_first(rt, u64::MAX, Way::Base)
     }
 
-    /// Does as `checkpoint` where the steps of the journal keep more than `bytes` bytes beside themselves. Returns whether it did.
+    /// Does as `checkpoint` where the steps of the journal keep more than `bytes` bytes beside themselves, with its errors. Returns whether
+    /// it did; no contract says this.
     pub fn checkpoint_above<R: Wait>(&self, rt: &R, bytes: u64) -> Result<bool, DeskFault>
         ensures { IfErr result (λ fault.
             (fault ≡ DeskFault.Unsaved) ⊎ (fault ≡ DeskFault.Memory)) }
@@ -385,7 +396,7 @@ impl<S: StepStore, L: StoredLedger> StoredDesk<S, L> {
     }
 
     /// Does as `replace_base` where the store had stored more rows than `most.rows` or more bytes than `most.bytes` since its base, when
-    /// it last came back from a commit. Returns whether it did.
+    /// it last came back from a commit, with its errors. Returns whether it did; no contract says this.
     pub fn replace_base_above<R: Wait>(&self, rt: &R, most: Growth) -> Result<bool, DeskFault>
         ensures { IfErr result (λ fault.
             (fault ≡ DeskFault.Unsaved) ⊎ (fault ≡ DeskFault.Memory)) }
@@ -398,9 +409,9 @@ impl<S: StepStore, L: StoredLedger> StoredDesk<S, L> {
         Ok(true)
     }
 
-    /// Gives up the desk: for a desk of its site without a store, which `close` takes, and for what was saved, which is there unless a thread
-    /// was cut off in a commit. Steps that nobody settled stand in the journal alone; call `settle_all` first. After a failed commit the
-    /// journal is ahead of the store.
+    /// Gives up the desk. Returns a desk of its site without a store, which `close` takes, and what was saved: `None` only if a thread was cut
+    /// off in a commit. It saves nothing: steps that nobody settled stand in the journal alone; call `settle_all` first. After a failed commit
+    /// the journal may be ahead of the store.
     pub fn into_parts(self) -> (SiteDesk<L>, Option<SavedSteps<S, L>>)
         ensures { result.0.passes ≡ self.passes }
     {

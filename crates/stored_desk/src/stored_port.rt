@@ -1,18 +1,20 @@
 ghost use Rattle.std.specs.Prelude.{◌≡◌, ◌≤◌, None};
 
 use crate::{StepStore, StoredDesk, StoredLedger};
+use dots::SharedBytes;
 use site_desk::Pass;
 use site_journal::{DeskFault, Port, Receipt};
 use std::sync::Wait;
 
-/// The port of a desk with a store for one pass: a frame that it answers is durable (this project's own).
+/// The port of a desk with a store for one pass: a frame of a cut or a whole that it returns is durable
+/// (this project's own).
 #[derive(Drop)]
 pub struct StoredPort<'a, S: StepStore, L: StoredLedger> {
     desk: &'a StoredDesk<S, L>,
     pass: &'a mut Pass<L>,
-    // That of the last call, if it had one.
+    // The fault of the last call, if it had one.
     fault: Option<DeskFault>,
-    // How many steps were done for which no receipt was answered.
+    // How many steps were done for which no receipt was returned.
     unanswered: u64,
     ghost seen: { unanswered ≤ pass.now.seen },
     ghost counted: { unanswered ≤ pass.now.share },
@@ -51,7 +53,7 @@ impl<'a, S: StepStore, L: StoredLedger, R: Wait> Port<R> for StoredPort<'a, S, L
 
     ghost fault = { last_fault };
 
-    /// A cut, whose frame is durable.
+    /// A cut, whose frame is durable. Errors as of `StoredDesk::cut`.
     fn cut(&mut self, rt: &R) -> Result<Receipt, DeskFault> {
         let desk = self.desk;
         let seen = self.pass.seen();
@@ -70,7 +72,7 @@ impl<'a, S: StepStore, L: StoredLedger, R: Wait> Port<R> for StoredPort<'a, S, L
         }
     }
 
-    /// A frame of all that the site knows, which is durable.
+    /// A frame of all that the site knows, which is durable. Errors as of `StoredDesk::whole`.
     fn whole(&mut self, rt: &R) -> Result<Receipt, DeskFault> {
         let desk = self.desk;
         let seen = self.pass.seen();
@@ -89,8 +91,9 @@ impl<'a, S: StepStore, L: StoredLedger, R: Wait> Port<R> for StoredPort<'a, S, L
         }
     }
 
-    /// A take. Its step is saved with a later one, or by `settle_all` of the desk.
-    fn take(&mut self, rt: &R, bytes: Vec<u8>) -> Result<Receipt, (DeskFault, Vec<u8>)> {
+    /// A take. Its step is saved with a later one, or by `settle_all` of the desk. Errors as of
+    /// `StoredDesk::take`.
+    fn take(&mut self, rt: &R, bytes: SharedBytes) -> Result<Receipt, (DeskFault, SharedBytes)> {
         let desk = self.desk;
         let seen = self.pass.seen();
         match desk.take(rt, self.pass, bytes) {

@@ -1,4 +1,4 @@
-//! The store, by whom it is held who commits.
+//! The store, as the thread holds it that commits.
 ghost use Rattle.std.specs.Prelude.{◌≡◌, ◌⊎◌, [], Err, IfErr, None, OnErr, OnOk, Some, false};
 ghost use Rattle.std.specs.Prelude.{length, slice_get, true};
 ghost use mathlib.Core.List.{IsPrefix};
@@ -45,7 +45,7 @@ impl<S: StepStore, L: StoredLedger> Model for Vault<S, L> {
 }
 
 impl<S: StepStore, L: StoredLedger> Vault<S, L> {
-    // A vault over a store without a step.
+    // A vault over a store without a step that begins as the ledger's base, with a prefix and a keeper of no step.
     pub fn new(store: S, prefix: HistoryPrefix<L>, keeper: Keeper<L>) -> Vault<S, L>
         requires prefix { prefix ≡ [] }
         requires keeper { keeper ≡ 0 }
@@ -94,7 +94,7 @@ impl<S: StepStore, L: StoredLedger> Vault<S, L> {
         }
     }
 
-    // How much its store has stored since its base.
+    // How much its store has stored since its base. No contract says how much.
     pub fn since_base(&self) -> Growth {
         self.store.since_base()
     }
@@ -107,7 +107,8 @@ impl<S: StepStore, L: StoredLedger> Vault<S, L> {
         mark.share(&mut self.keeper)
     }
 
-    // Saves the steps of a group, behind which `history` has no more, in one commit. The fault is `Unsaved`, and the vault is then broken.
+    // Saves a group in one commit: the steps of `history` behind those that are saved. The only fault is `Unsaved`, where the commit fails:
+    // the vault is then broken, and has saved the steps from before.
     fn save<R: Wait>(
         &mut self,
         rt: &R,
@@ -143,8 +144,8 @@ impl<S: StepStore, L: StoredLedger> Vault<S, L> {
     }
 
     // Saves all steps that the site has done, in one commit; with `drops` the site's journal drops its steps too. Faults, in order: 1
-    // `Unsaved`, where the vault is broken; 2 `Unsaved` and `Memory`, as of `RecordedSite::take_steps`; 3 `Unsaved`, where the commit fails, and
-    // the vault is then broken.
+    // `Unsaved`, where the vault is broken; 2 `Unsaved` and `Memory`, as of `RecordedSite::take_steps`; 3 `Unsaved`, where the commit fails: the
+    // vault is then broken, and with `drops` the journal has dropped its steps. After 1 and 2 vault and journal are as before.
     pub fn save_rest<R: Wait>(
         &mut self,
         rt: &R,
@@ -200,8 +201,9 @@ impl<S: StepStore, L: StoredLedger> Vault<S, L> {
         }
     }
 
-    // Saves all steps that the site has done, drops them of its journal, and puts the site after them in their place in the store. Faults, in
-    // order: 1 those of `save_rest`; 2 those of `put_base`: after `Memory` the steps are saved, and the base is as before.
+    // Saves all steps that the site has done, drops those of its journal, and puts the site after them in their place in the store. Faults, in
+    // order: 1 those of `save_rest` with `drops`, and `Memory` for a copy of the site, which changes nothing; 2 those of `put_base`: after its
+    // `Memory` the steps are saved and dropped, and the base is as before.
     pub fn save_base<R: Wait>(
         &mut self,
         rt: &R,

@@ -2,7 +2,8 @@ use delta_codec::DecodeFault;
 use replica::RestoreFault;
 use thiserror::Error;
 
-/// Why a row is no base of a site. Of several causes the first of this list is returned (this project's own).
+/// Why a row is no base of a site. `base_of_row` and `base_heading` say which of several causes is returned
+/// (this project's own).
 #[derive(Clone, Copy, Debug, PartialEq, Eq, Error)]
 pub enum BaseFault {
     /// The kind of the row is not that of a base.
@@ -11,13 +12,13 @@ pub enum BaseFault {
     /// The base is of another version, or has no bytes.
     #[error("another version")]
     BadVersion,
-    /// The base is of another site.
+    /// The base is of another site, or of none.
     #[error("another site")]
     WrongSite,
-    /// The base is of another list of queues.
+    /// The base is of another list of queues, or of none.
     #[error("another list of queues")]
     WrongList,
-    /// The bytes end before the frames begin.
+    /// The bytes end before the site, the number of queues or the frames.
     #[error("truncated")]
     Truncated,
     /// The state or the buffer is no frame, for this cause.

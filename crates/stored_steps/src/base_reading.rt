@@ -40,7 +40,8 @@ struct Head<'a> {
     frames: &'a [u8],
 }
 
-// The bytes behind the version and the site.
+// The bytes behind the version and the site. Errors, in order: `BadVersion`, if the first byte isn't `BASE_VERSION`; `Truncated`, if no
+// other follows; `WrongSite`, if the second isn't the number of the site.
 fn behind_site(site: SiteId, bytes: &[u8]) -> Result<&[u8], BaseFault>
     ensures front { IfOk result (λ rest. bytes.now ≡ BASE_VERSION ∷ site ∷ rest.now) }
     ensures fault { IfErr result (λ fault. IsSiteCause site bytes.now fault) }
@@ -60,7 +61,7 @@ fn behind_site(site: SiteId, bytes: &[u8]) -> Result<&[u8], BaseFault>
     Ok(rest)
 }
 
-// The bytes behind the list of queues.
+// The bytes behind this list of queues. Errors: `WrongList`, if the bytes don't begin with it; `Memory`, which may replace that.
 fn behind_list<'a>(alloc: Global, list: &QueueList, bytes: &'a [u8]) -> Result<&'a [u8], BaseFault>
     ensures found { IfOk result (λ rest. bytes.now ≡ list_bytes list.now ++ rest.now) }
     ensures queues { OnOk result (AreQueues list.now) }
@@ -83,7 +84,7 @@ fn behind_list<'a>(alloc: Global, list: &QueueList, bytes: &'a [u8]) -> Result<&
     }
 }
 
-// A number of eight bytes at the front of bytes, and what follows it.
+// A number of eight bytes at the front of bytes, and what follows it. `None` if there are fewer bytes.
 fn number8(bytes: &[u8]) -> Option<(u64, &[u8])>
     ensures spelled { IfSome result (λ x. bytes.now ≡ to_be_bytes w64 x.0 ++ x.1.now) }
     ensures fits { IfSome result (λ x. x.0 < 2 ^ 64) }
@@ -99,7 +100,7 @@ fn number8(bytes: &[u8]) -> Option<(u64, &[u8])>
     Some((number, rest))
 }
 
-// Three numbers at the front of bytes, and what follows them.
+// Three numbers of eight bytes at the front of bytes, and what follows them. `None` if there are fewer bytes.
 fn three_numbers(bytes: &[u8]) -> Option<((u64, u64, u64), &[u8])>
     ensures spelled { IfSome result (λ x. bytes.now ≡ to_be_bytes w64 x.0.0
         ++ (to_be_bytes w64 x.0.1 ++ (to_be_bytes w64 x.0.2 ++ x.1.now))) }
@@ -113,7 +114,7 @@ fn three_numbers(bytes: &[u8]) -> Option<((u64, u64, u64), &[u8])>
     Some(((count, time, frames), rest))
 }
 
-// The name and the numbers at the front of bytes, and what follows them.
+// The name and the numbers at the front of bytes, and what follows them. `None` if there are fewer bytes.
 fn head_in(bytes: &[u8]) -> Option<Head<'_>>
     ensures head { IfSome result
         (λ head. IsHead head.name head.starts head.last head.frames.now bytes.now) }
@@ -141,7 +142,7 @@ fn decode_fault(fault: DecodeFault) -> BaseFault
     }
 }
 
-// The delta of a frame, if it is the site's of the number 1.
+// The delta of a frame, if it is the site's of the number 1; else the fault is `WrongFrame`.
 fn own_delta(site: SiteId, frame: Frame) -> Result<Delta, BaseFault>
     ensures delta { IfOk result (λ delta. frame ≡ frame_of site 1 delta) }
     ensures fault { IfErr result (λ fault. (fault ≡ BaseFault.WrongFrame)
@@ -154,7 +155,8 @@ fn own_delta(site: SiteId, frame: Frame) -> Result<Delta, BaseFault>
     Ok(frame.delta)
 }
 
-// The delta of a site's frame of the number 1 at the front of bytes, and what follows the frame.
+// The delta of a site's frame of the number 1 at the front of bytes, and what follows the frame. Errors, in order: `Decode`, with the fault
+// of `decode`; `WrongFrame`, if the frame is of another site or number; `Memory`, which may replace both.
 fn delta_in(alloc: Global, site: SiteId, bytes: &[u8]) -> Result<(Delta, &[u8]), BaseFault>
     ensures delta { IfOk result (λ x. IsDeltaAtFront site x.0 bytes.now x.1.now) }
     ensures fault { IfErr result (λ fault. (fault ≡ BaseFault.Memory)
@@ -175,7 +177,8 @@ fn is_end(bytes: &[u8]) -> bool
     bytes.is_empty()
 }
 
-// The state and the buffer of a site that bytes spell.
+// The state and the buffer of a site that bytes spell. Errors, in order: those of `delta_in` for the state, then for the buffer;
+// `Trailing`, if bytes follow.
 #[tactic(auto, using(crate::proofs::Reading::parts_read))]
 fn deltas_in(alloc: Global, site: SiteId, bytes: &[u8]) -> Result<(Delta, Delta), BaseFault>
     ensures parts { IfOk result (λ x. HasParts site x.0 x.1 bytes.now) }
@@ -209,7 +212,7 @@ fn parts_fault(fault: RestoreFault) -> BaseFault
     }
 }
 
-// The base that a row says, of this site with this list of queues.
+// The base that a row says, of this site with this list of queues. Errors as of `base_of_row`.
 fn read_base(
     alloc: Global,
     site: SiteId,
@@ -252,10 +255,11 @@ fn read_base(
 /// changes nothing where a replica was stored.
 ///
 /// Errors, in order, each but the last only for its cause: `NoBase`, if the kind is not that of a base; `BadVersion`, if the first byte is
-/// not `BASE_VERSION`; `WrongSite`, if the base is of another site; `WrongList`, if it is of another list of queues; `Truncated`, if the
-/// bytes end before the frames begin; of the state, then of the buffer, `Decode`, if it is no frame, with the fault of `decode`, and
-/// `WrongFrame`, if it is a frame of another site or number; `Trailing`, if bytes follow the buffer; `Parts`, if the parts are those of no
-/// replica, with the fault of `Replica::restored`; `Memory`, which may stand in place of each from `WrongList` on.
+/// not `BASE_VERSION`; `Truncated`, if no other follows; `WrongSite`, if the second is not this site's number; `WrongList`, if the bytes
+/// after it don't begin with this list of queues; `Truncated` again, if the bytes end before the frames begin; of the state, then of the
+/// buffer, `Decode`, if it is no frame, with the fault of `decode`, and `WrongFrame`, if it is a frame of another site or number;
+/// `Trailing`, if bytes follow the buffer; `Parts`, if the parts are those of no replica, with the fault of `Replica::restored`; `Memory`,
+/// which may replace each from `WrongList` on.
 pub fn base_of_row(
     alloc: Global,
     site: SiteId,
@@ -275,7 +279,8 @@ pub fn base_of_row(
     read_base(alloc, site, list, row)
 }
 
-// The site that bytes name behind the version.
+// The site that bytes name behind the version. Errors, in order: `BadVersion`, if the first byte isn't `BASE_VERSION`; `Truncated`, if no
+// other follows; `WrongSite`, if the second is the number of no site.
 fn site_in(bytes: &[u8]) -> Result<SiteId, BaseFault>
     ensures front { IfOk result
         (λ site. (rest : List ℕ) × (bytes.now ≡ BASE_VERSION ∷ site ∷ rest)) }
@@ -297,7 +302,8 @@ fn site_in(bytes: &[u8]) -> Result<SiteId, BaseFault>
     }
 }
 
-// A name at the front of bytes, and what follows it.
+// A name of a queue at the front of bytes, behind its length in one byte, and what follows it. `None` if the bytes end before it does, or
+// are no queue's name.
 fn name_in(bytes: &[u8]) -> Option<(QueueName, &[u8])>
     ensures spelled { IfSome result (λ x. bytes.now ≡ name_bytes x.0 ++ x.1.now) }
     ensures none { IfNone result (HasNoName bytes.now) }
@@ -314,7 +320,7 @@ fn name_in(bytes: &[u8]) -> Option<(QueueName, &[u8])>
     }
 }
 
-// A number of names at the front of bytes.
+// The first `count` names at the front of bytes. Errors: `WrongList`, if there are fewer; `Memory`, which may replace that.
 #[tactic(auto, using(crate::proofs::Headings::one_name_more, crate::proofs::Headings::fewer))]
 fn names_of(alloc: Global, count: u16, bytes: &[u8]) -> Result<Vec<QueueName>, BaseFault>
     ensures count { IfOk result (λ names. length names.items ≡ count) }
@@ -339,7 +345,8 @@ fn names_of(alloc: Global, count: u16, bytes: &[u8]) -> Result<Vec<QueueName>, B
     Ok(names)
 }
 
-// The names at the front of bytes, behind how many there are.
+// The names at the front of bytes, behind their number in two bytes. Errors, in order: `Truncated`, if there aren't two bytes; those of
+// `names_of`.
 fn names_in(alloc: Global, bytes: &[u8]) -> Result<Vec<QueueName>, BaseFault>
     ensures few { IfOk result (λ names. length names.items < 2 ^ 16) }
     ensures spelled { IfOk result
@@ -353,7 +360,8 @@ fn names_in(alloc: Global, bytes: &[u8]) -> Result<Vec<QueueName>, BaseFault>
     names_of(alloc, u16::from_be_bytes([*high, *low]), rest)
 }
 
-// The list of queues of these names.
+// The list of queues of these names. Errors: `WrongList`, if the names are no list of queues: none, too many, or one twice; `Memory`, which
+// may replace that.
 fn queues_of(alloc: Global, names: &[QueueName]) -> Result<QueueList, BaseFault>
     ensures value { IfOk result (λ list. list ≡ names.now) }
     ensures queues { IfOk result (λ list. AreQueues list) }
@@ -369,7 +377,8 @@ fn queues_of(alloc: Global, names: &[QueueName]) -> Result<QueueList, BaseFault>
     }
 }
 
-// The list of queues at the front of bytes.
+// The list of queues at the front of bytes. Errors, in order: `Truncated`, if the bytes end before the number of queues; `WrongList`, if no
+// list of queues follows; `Memory`, which may replace that.
 fn list_in(alloc: Global, bytes: &[u8]) -> Result<QueueList, BaseFault>
     ensures spelled { IfOk result
         (λ list. (rest : List ℕ) × (bytes.now ≡ list_bytes list ++ rest)) }
@@ -390,7 +399,7 @@ fn list_in(alloc: Global, bytes: &[u8]) -> Result<QueueList, BaseFault>
     }
 }
 
-// The site and the list of queues that the base in a row names.
+// The site and the list of queues that the base in a row names. Errors as of `base_heading`.
 fn read_heading(alloc: Global, row: &StoredRow) -> Result<(SiteId, QueueList), BaseFault>
     ensures heading { IfOk result (λ it. IsHeading row.now it.0 it.1) }
     ensures fault { IfErr result (λ fault. (fault ≡ BaseFault.Memory)

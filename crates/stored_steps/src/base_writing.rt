@@ -14,7 +14,8 @@ use dots::{Bytes, Memory, SiteId};
 use replica::{QueueList, Replica};
 use std::alloc::Global;
 
-// Writes the name of the queue at this place.
+// Writes the name of the queue at this place, behind its length. Fails only when out of memory; then a part
+// of the bytes may have been written, as by each function here that fails.
 fn put_name(out: &mut Vec<u8>, list: &QueueList, place: u16) -> Result<(), Memory>
     requires { place < length list.now }
     ensures { OnOk result
@@ -29,7 +30,7 @@ fn put_name(out: &mut Vec<u8>, list: &QueueList, place: u16) -> Result<(), Memor
     Ok(())
 }
 
-// Writes a list of queues.
+// Writes a list of queues: how many there are, in two bytes, and their names. Fails only when out of memory.
 #[tactic(auto, using(crate::proofs::Writing::names_more, crate::proofs::Writing::list_written))]
 pub(crate) fn put_list(out: &mut Vec<u8>, list: &QueueList) -> Result<(), Memory>
     ensures written { OnOk result (out.new.items ≡ out.old.items ++ list_bytes list.now) }
@@ -43,7 +44,8 @@ pub(crate) fn put_list(out: &mut Vec<u8>, list: &QueueList) -> Result<(), Memory
     Ok(())
 }
 
-// Writes the numbers of a base.
+// Writes the numbers of a base, in eight bytes each: how often its site was started, and its last count, time and frame
+// number. Fails only when out of memory.
 fn put_numbers(out: &mut Vec<u8>, starts: u64, last: (u64, u64, u64)) -> Result<(), Memory>
     ensures { OnOk result (out.new.items ≡ out.old.items ++ numbers_bytes starts last) }
 {
@@ -55,7 +57,8 @@ fn put_numbers(out: &mut Vec<u8>, starts: u64, last: (u64, u64, u64)) -> Result<
     Ok(())
 }
 
-// Writes what stands before the frames of a base.
+// Writes what stands before the frames of a base: version, site, list of queues, name and numbers. Fails only when out
+// of memory.
 fn put_head(
     out: &mut Vec<u8>,
     replica: &Replica,
@@ -73,7 +76,8 @@ fn put_head(
     Ok(())
 }
 
-// Writes a delta as the site's frame of the number 1.
+// Writes a delta, whose values are within the ranges of a frame, as the site's frame of the number 1. Fails only when
+// out of memory.
 #[tactic(auto, using(crate::proofs::Writing::delta_written))]
 fn put_delta(alloc: Global, out: &mut Vec<u8>, site: SiteId, delta: &Delta) -> Result<(), Memory>
     requires { IsInRanges (frame_of site 1 delta.now) }
@@ -85,7 +89,7 @@ fn put_delta(alloc: Global, out: &mut Vec<u8>, site: SiteId, delta: &Delta) -> R
     put
 }
 
-// The bytes of a base.
+// The bytes of a base: what stands before the frames, the state and the buffer. Fails only when out of memory.
 #[tactic(auto, using(crate::proofs::Writing::delta_in_ranges))]
 fn base_bytes(
     alloc: Global,
@@ -105,7 +109,8 @@ fn base_bytes(
     Ok(out)
 }
 
-/// The row of the base of a store with this name, over which the site was started so often. Fails only when out of memory.
+/// The row of the base of a store with this name, over which the site was started `starts` times; its pass is 0, though
+/// no contract says so. Fails only when out of memory.
 pub fn row_of_base(
     alloc: Global,
     replica: &Replica,

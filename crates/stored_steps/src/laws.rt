@@ -39,13 +39,13 @@ pub fn a_step_without_a_row_changes_nothing()
 {}
 
 /// The rows of steps lead a site where the steps do. So a store that keeps no status, no refused command and no empty cut keeps all that
-/// the site says. That a step is within its limits `row_of_step` says (within).
+/// the site says. `row_of_step` ensures that a step is within its limits (`within`).
 pub fn rows_lead_where_their_steps_do()
     ensures { (from to : SiteState) (steps : List Step) → LeadAll from steps to
         → All IsWithinLimits steps → RowsLead from (rows_of steps) to }
 {}
 
-/// Whoever does what rows say, from sites that say the same, comes to sites that say the same.
+/// Rows lead sites that say the same to sites that say the same.
 pub fn rows_lead_to_one_site()
     ensures { (a b x y : SiteState) (rows : List Stored) → IsSameSite a b
         → RowsLead a rows x → RowsLead b rows y → IsSameSite x y }

@@ -17,7 +17,7 @@ use replica::{QueueList, Replica};
 use site_journal::{Journaled, MOST_STEPS, ReplayFault, Step};
 use std::alloc::Global;
 
-// Why a row is no base, as the fault of a store.
+// The fault of a store whose first row is no base: `Memory` stays, and every other fault is a `Base`. No contract says this.
 fn base_fault(fault: BaseFault) -> StoreFault {
     match fault {
         BaseFault::Memory => StoreFault::Memory,
@@ -25,7 +25,7 @@ fn base_fault(fault: BaseFault) -> StoreFault {
     }
 }
 
-// Why the row of this position is of no step, as the fault of a store.
+// The fault of a store whose row of this position is of no step: `Memory` stays, and every other fault is a `Row`. No contract says this.
 fn row_fault(position: u64, fault: RowFault) -> StoreFault {
     match fault {
         RowFault::Memory => StoreFault::Memory,
@@ -33,7 +33,8 @@ fn row_fault(position: u64, fault: RowFault) -> StoreFault {
     }
 }
 
-// Why the step of the row of this position was not done again, as the fault of a store.
+// The fault of a store where the step of the row of this position was not done again: `Damaged` with this position, `JournalFull` or
+// `Memory`. No contract says this.
 fn replay_fault(position: u64, fault: ReplayFault) -> StoreFault {
     match fault {
         ReplayFault::JournalFull => StoreFault::JournalFull,
@@ -42,7 +43,8 @@ fn replay_fault(position: u64, fault: ReplayFault) -> StoreFault {
     }
 }
 
-// Makes room for one step more in a journal: drops the steps of one that is full.
+// Makes room for one step more in a journal: drops the steps of one that is full. One with 2^40 steps in all stays full. Fails only with
+// `Memory`, and then drops none.
 fn make_room(journal: &mut Journaled) -> Result<(), StoreFault>
     ensures { OnOk result (HasRoom journal.old journal.new) }
 {
@@ -58,7 +60,9 @@ fn make_room(journal: &mut Journaled) -> Result<(), StoreFault>
     }
 }
 
-// Does the step of this position again.
+// Does the step of the row of this position again. Errors, in order: `JournalFull`, if 2^40 steps were done before; `Damaged`, if the site
+// refuses the step, or gives another answer or other bytes; `Memory`, which may replace both. After an error the journal may have dropped
+// its steps, and after `Damaged` it may have a different step more.
 fn replay_step(journal: &mut Journaled, position: u64, step: &Step) -> Result<(), StoreFault>
     ensures { OnOk result (HasReplayedStep journal.old step.now journal.new) }
 {
@@ -69,7 +73,8 @@ fn replay_step(journal: &mut Journaled, position: u64, step: &Step) -> Result<()
     }
 }
 
-// Does again what the row of this position says.
+// Does again what the row of this position says; the row of a start says nothing. Errors, in order: `Row`, with the fault of `step_of_row`;
+// those of `replay_step`; `Memory`, which never replaces `Row`.
 #[tactic(auto, using(crate::proofs::RestoringLaws::start_replayed, crate::proofs::RestoringLaws::step_replayed, crate::proofs::RestoringLaws::step_limit))]
 fn replay_row(
     alloc: Global,
@@ -93,7 +98,8 @@ fn replay_row(
     done
 }
 
-// Does again what rows say, the first of which has this position.
+// Does again what rows say, the first of which has the position `first`. The error is that of the first row that has one; then the journal
+// has done the steps before it, and after `Damaged` maybe one more.
 fn replay_rows(
     alloc: Global,
     journal: &mut Journaled,
@@ -120,7 +126,7 @@ fn starts_in(rows: &[StoredRow]) -> u64
     rows.iter().filter(|row| row.is_start()).count() as u64
 }
 
-// A journal of a replica, without a step.
+// A journal of a replica, without a step. The fault is `Memory`, and the replica is then dropped.
 fn begin(alloc: Global, replica: Replica, limit: u32) -> Result<Journaled, StoreFault>
     requires some { 1 ≤ limit }
     requires most { limit ≤ MOST_STEPS }
@@ -135,7 +141,8 @@ fn begin(alloc: Global, replica: Replica, limit: u32) -> Result<Journaled, Store
     }
 }
 
-// The site of a base and of further rows, the first of which has this position.
+// The site of a base and of further rows, the first of which has the position `first`. Errors: `Memory`; those of `replay_rows`. Each drops
+// the site.
 fn restore_from(
     alloc: Global,
     base: StoredBase,
@@ -172,12 +179,13 @@ fn restore_from(
 }
 
 /// Builds a site again of the rows of its store, the first of which has the position `first`. The first row is the base; the step of each
-/// further row is done again, and must be the very same. The journal may have `limit` steps, 1 to 1,000,000. A journal that is full drops
-/// its steps before the next one, so it has the steps of the last rows: all of them, if they are at most `limit`.
+/// further row is done again, and must be the very same; the row of a start only counts one. The journal may have `limit` steps, 1 to
+/// 1,000,000. A journal that is full drops its steps before the next one, so it has the steps of the last rows: all of them, if they are at
+/// most `limit`.
 ///
 /// Errors, of the first row that has one: `Base`, with the fault of `base_of_row`, also where there is no row; `Row`, with the position and
-/// the fault of `step_of_row`; `Damaged`, with the position, if the site refuses the step, or gives another answer or other bytes;
-/// `JournalFull`, if 2^40 steps were done before; `Memory`.
+/// the fault of `step_of_row`; `JournalFull`, if 2^40 steps were done before; `Damaged`, with the position, if the site refuses the step,
+/// or gives another answer or other bytes; `Memory`, which may replace `JournalFull`, `Damaged`, and a `Base` as of `base_of_row`.
 pub fn restore(
     alloc: Global,
     site: SiteId,

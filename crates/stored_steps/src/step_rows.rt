@@ -13,13 +13,13 @@ ghost use Rattle.stored_steps.specs.StepRows.{IsWithinLimits, done, row_of, row_
 use crate::words::{command_words, frame_words};
 use crate::{RowFault, RowKind, StoredRow};
 use ask_code::{AnsweredCommand, decode_ask, encode_ask};
-use dots::{Bytes, Memory};
+use dots::{Bytes, Memory, SharedBytes};
 use replica::Command;
 use site_journal::{Step, StepDeed};
 use status_report::{Answer, Ask};
 use std::alloc::Global;
 
-// The row of a command that is done.
+// The row of a command that is done. Fails only when out of memory.
 fn command_row(alloc: Global, pass: u32, command: &Command) -> Result<StoredRow, Memory>
     ensures row { IfOk result
         (λ row. row ≡ row_with pass RowKind.Asked (ask_bytes (done command.now))) }
@@ -34,17 +34,17 @@ fn command_row(alloc: Global, pass: u32, command: &Command) -> Result<StoredRow,
     Ok(StoredRow::new(pass, RowKind::Asked.number(), body, words))
 }
 
-// The row of a frame.
+// The row of a frame, of this kind; its words say `done` and the frame's size. Fails only when out of memory.
 fn frame_row(
     alloc: Global,
     pass: u32,
     kind: RowKind,
-    frame: &Bytes,
+    frame: &SharedBytes,
     done: &str,
 ) -> Result<StoredRow, Memory>
     ensures { IfOk result (λ row. row ≡ row_with pass kind frame.now) }
 {
-    let body = frame.copy()?;
+    let body = Bytes::new(Vec::from_slice(alloc, frame.as_slice())?);
     let Ok(words) = frame_words(alloc, done, frame) else {
         drop(body);
         return Err(Memory);
@@ -69,7 +69,7 @@ pub fn row_of_step(alloc: Global, step: &Step) -> Result<Option<StoredRow>, Memo
     Ok(Some(row))
 }
 
-// The command that bytes say is done.
+// The command that bytes say is done. Errors, in order: `Ask`, with the fault of `decode_ask`; `NotDone`, if the command was refused.
 fn done_command(bytes: &[u8]) -> Result<Command, RowFault>
     ensures within { IfOk result (λ command. IsCommand command) }
     ensures value { IfOk result (λ command. bytes.now ≡ ask_bytes (done command)) }
@@ -88,16 +88,18 @@ fn done_command(bytes: &[u8]) -> Result<Command, RowFault>
     }
 }
 
-// A copy of the bytes of a frame.
-fn frame_in(alloc: Global, bytes: &[u8]) -> Result<Bytes, RowFault>
+// A copy of the bytes of a frame. Fails only when out of memory.
+fn frame_in(alloc: Global, bytes: &[u8]) -> Result<SharedBytes, RowFault>
     ensures value { IfOk result (λ frame. frame ≡ bytes.now) }
     ensures only { IfErr result (λ fault. fault ≡ RowFault.Memory) }
 {
     let copy = Vec::from_slice(alloc, bytes)?;
-    Ok(Bytes::new(copy))
+    let frame = SharedBytes::new(alloc, copy)?;
+    Ok(frame)
 }
 
-// The deed of a row of this kind with these bytes.
+// The deed of a row of this kind with these bytes. Errors: `BadKind`, if no step has this kind; of a command those of `done_command`;
+// of a frame `Memory`.
 fn deed_in(alloc: Global, kind: RowKind, bytes: &[u8]) -> Result<StepDeed, RowFault>
     ensures row { IfOk result
         (λ deed. (pass : ℕ) → row_of_deed pass deed ≡ Some (row_with pass kind bytes.now)) }
@@ -125,7 +127,7 @@ fn deed_in(alloc: Global, kind: RowKind, bytes: &[u8]) -> Result<StepDeed, RowFa
     }
 }
 
-// The step that a row stands for.
+// The step that a row stands for. Errors as of `step_of_row`.
 fn read_step(alloc: Global, row: &StoredRow) -> Result<Step, RowFault>
     ensures row { IfOk result (λ step. row_of step ≡ Some row.now) }
     ensures within { IfOk result (λ step. IsWithinLimits step) }

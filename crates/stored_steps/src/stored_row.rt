@@ -78,7 +78,7 @@ impl StoredRow {
         self.body.as_slice()
     }
 
-    /// What it says, in words.
+    /// What it says, in words, which no contract sees. They are empty where the row was read of a store.
     pub fn words(&self) -> &str {
         self.words.as_str()
     }

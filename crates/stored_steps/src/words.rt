@@ -1,10 +1,11 @@
-//! What a row says in words, for those who look into a store.
+//! What a row says in words, for those who look into a store. No contract sees the words.
+//! Functions here fail only when out of memory.
 use bstr::BStr;
-use dots::{Bytes, Interface, Memory, QueueName};
+use dots::{Interface, Memory, QueueName, SharedBytes};
 use replica::Command;
 use std::alloc::Global;
 
-// The name of a queue, or that of every one.
+// The name of a queue, or `*` for every one.
 fn queue_words(queue: &Option<QueueName>) -> BStr<'_> {
     match queue {
         Some(name) => BStr::new(name.as_bytes()),
@@ -12,7 +13,7 @@ fn queue_words(queue: &Option<QueueName>) -> BStr<'_> {
     }
 }
 
-// The words of an action on a member of a queue.
+// The words of an action on a member of a queue. Fails only when out of memory.
 fn member_words(
     alloc: Global,
     action: &str,
@@ -23,13 +24,14 @@ fn member_words(
     format!(in alloc; "{action} {queue} {interface}")
 }
 
-// The words of an action on a queue.
+// The words of an action on a queue. Fails only when out of memory.
 fn queue_action_words(alloc: Global, action: &str, queue: &QueueName) -> Result<String, Memory> {
     let queue = BStr::new(queue.as_bytes());
     format!(in alloc; "{action} {queue}")
 }
 
-// The words of a command: its Manager action, queue and interface. `*` stands for every queue.
+// The words of a command: its Manager action, `Completed` or `Abandoned`; its queue, `*` for
+// every one; and its interface, if it has one. Fails only when out of memory.
 pub(crate) fn command_words(alloc: Global, command: &Command) -> Result<String, Memory> {
     match command {
         Command::Add {
@@ -60,8 +62,12 @@ pub(crate) fn command_words(alloc: Global, command: &Command) -> Result<String, 
     }
 }
 
-// The words of a frame: what was done, and how many bytes it has.
-pub(crate) fn frame_words(alloc: Global, done: &str, bytes: &Bytes) -> Result<String, Memory> {
+// The words of a frame: what was done, and how many bytes it has. Fails only when out of memory.
+pub(crate) fn frame_words(
+    alloc: Global,
+    done: &str,
+    bytes: &SharedBytes,
+) -> Result<String, Memory> {
     let size = bytes.as_slice().len();
     format!(in alloc; "{done}, {size} bytes")
 }

@@ -6,4 +6,4 @@ use Rattle.site_journal.proofs.journaled.spelled.Goals as goal
 
 pub returns-clause-spelled : goal.returns-clause-spelled
 returns-clause-spelled c =
-    subst (SpellsIn VERSION (frame_of c.args.maker c.args.number c.args.delta.now)) (sym c.new-bytes.ensures) (c.in_ok-encode_parts.ensures c.requires)
+    subst (SpellsIn VERSION (frame_of c.args.maker c.args.number c.args.delta.now)) (sym c.in_ok-bytes.ensures) (c.in_ok-encode_parts.ensures c.requires)

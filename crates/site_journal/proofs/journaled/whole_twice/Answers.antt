@@ -1,4 +1,4 @@
-use Rattle.std.proofs.Common.{◌≡◌, ◌+◌, suc, refl, sym, subst, ◌∙◌, arith}
+use Rattle.std.proofs.Common.{◌≡◌, ◌+◌, suc, refl, sym, subst, arith}
 use Rattle.delta.specs.DeltaStates.{IsSame}
 use Rattle.delta.specs.Frames.{frame_of}
 use Rattle.delta.specs.declared.frame.Frame.{Frame}

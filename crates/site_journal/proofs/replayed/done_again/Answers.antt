@@ -6,5 +6,5 @@ use Rattle.site_journal.proofs.replayed.done_again.Goals as goal
 
 pub returns-in-Took-clause-refused : goal.returns-in-Took-clause-refused
 returns-in-Took-clause-refused c can =
-    let deed : c.args.step.now.deed ≡ Took c.as_slice.result.now = search rules in
+    let deed : c.args.step.now.deed ≡ Took c.in-Took.bytes = search rules in
     c.take_again.ensures.refused can.to (subst (λ (d : StepDeed). Leads c.args.journal.now.replica d can.to) deed can.leads)
