@@ -17,7 +17,7 @@ abbrev pub queues_bytes : List (List ℕ) → List ℕ
 queues_bytes [] = []
 queues_bytes (name ∷ names) = length name ∷ (name ++ queues_bytes names)
 
--- another site's card is of this site's store, and of an earlier start
+-- another site's card has this site's number and store, and a smaller start count
 abbrev pub IsOlder : Card → Card → Type 0
 IsOlder own other = (other.number ≡ own.number) × (other.store ≡ own.store) × (other.starts < own.starts)
 

@@ -29,7 +29,7 @@ acknowledgements_label = codes "queue sites link 1, acknowledgements"
 abbrev pub labels : List (List ℕ)
 labels = accepts ∷ dials ∷ verdict_label ∷ items_label ∷ acknowledgements_label ∷ []
 
--- both nonces and both cards
+-- the bytes of both nonces and both cards
 abbrev pub transcript_bytes : Transcript → List ℕ
 transcript_bytes t = t.dialer_nonce ++ (t.acceptor_nonce ++ (card_bytes t.acceptor ++ card_bytes t.dialer))
 

@@ -18,7 +18,7 @@ pub const CARD_BYTES: usize = 57;
 /// Which site it is, of which store and which start of it, and of which queues.
 #[derive(Clone, Copy, Debug, PartialEq, Eq)]
 pub struct Card {
-    /// The site's number. On a card that came it may be that of no site.
+    /// The site's number. On a card of another site it may be that of no site.
     pub number: u8,
     /// The 16 bytes that name the site's store.
     pub store: [u8; 16],
@@ -62,7 +62,7 @@ impl Card {
     }
 }
 
-// Adds the bytes of a card.
+// Adds the bytes of a card to a message.
 pub(crate) fn put_card(out: &mut Message, card: &Card)
     requires { array_vec_len out.old + CARD_BYTES ≤ MESSAGE_BYTES }
     ensures written { out.new.items ≡ out.old.items ++ card_bytes card.now }

@@ -30,7 +30,7 @@ fn send_wrong_secret<W: Sink>(sink: &mut W)
     let _ = write_all(sink, &[Refusal::WrongSecret.number()]);
 }
 
-// Writes the offer of the site that accepts: its card and its code.
+// Writes the offer of the site that accepts: its card and its code. `NotSent`: the sink failed, and has taken a prefix of them.
 fn write_offer<W: Sink>(
     sink: &mut W,
     key: &Key,
@@ -56,7 +56,7 @@ fn write_offer<W: Sink>(
     write_message(sink, &message)
 }
 
-// Reads a card and a code.
+// Reads a card and a code. `Silent`: the source failed or ended, or gave too little.
 fn read_card<S: Source>(source: &mut S) -> Result<(Card, [u8; 32]), HelloFault>
     requires { S.failed source.old ≡ false }
     ensures read { IfOk result (λ (card, code). Consumes (S.left source.old) (S.left source.new)
@@ -77,7 +77,8 @@ fn read_card<S: Source>(source: &mut S) -> Result<(Card, [u8; 32]), HelloFault>
     Ok((card_in(front), code))
 }
 
-// Reads the byte of a verdict. Errors: `Silent`; `IsRefused` if the byte refuses this site's code, since nothing follows it then.
+// Reads the byte of a verdict. Errors, in order: 1 `Silent`, if none came; 2 `IsRefused` with `WrongSecret`, if the byte refuses
+// this site's code: nothing follows it then.
 fn read_verdict<S: Source>(source: &mut S) -> Result<u8, HelloFault>
     requires { S.failed source.old ≡ false }
     ensures read { IfOk result (λ verdict. Consumes (S.left source.old) (S.left source.new)
@@ -108,8 +109,8 @@ fn read_verdict<S: Source>(source: &mut S) -> Result<u8, HelloFault>
 /// The opening is written before anything is read. The source is read at most 48 times, and gives at most 125 bytes before `Silent`. At
 /// `NotSent` nothing was read, and the sink has taken a prefix of the opening.
 ///
-/// Errors: `NotSent`; `Silent` if too little came; else, by the bytes that came, in order: `OtherProtocol`, `OtherVersion`, `WrongSecret`.
-/// At `WrongSecret` the refusal is sent to the other site.
+/// Errors: `NotSent`; then each part is judged once it has come, and it is `Silent` if the next one doesn't come; in order:
+/// `OtherProtocol`, `OtherVersion`, `WrongSecret`. At `WrongSecret` the refusal is sent to the other site.
 pub fn begin_hello<S: Source, W: Sink>(
     source: &mut S,
     sink: &mut W,
@@ -150,7 +151,9 @@ pub fn begin_hello<S: Source, W: Sink>(
     })
 }
 
-// Reads the verdict of the site that accepts. Errors: `Silent`, `IsRefused`, `WrongSecret`.
+// Reads the verdict of the site that accepts. Errors: `Silent` if its byte, or the code that it needs, didn't come; else, in order:
+// `IsRefused` with `WrongSecret` if it refuses this site's code, which needs no code; `WrongSecret` if it has another code; `IsRefused` if
+// it is a refusal.
 fn read_welcome<S: Source>(
     source: &mut S,
     key: &Key,
@@ -190,9 +193,9 @@ fn read_welcome<S: Source>(
 /// The answer is written before anything is read. The source is read at most 32 times, and gives at most 32 bytes before `Silent`. At
 /// `NotSent` nothing was read, and the sink has taken a prefix of the answer.
 ///
-/// Errors: `NotSent`; `Refuses` if `refusal` is one, after it was sent; `Silent` if too little came; else, by the bytes that came, in
-/// order: `IsRefused` with `WrongSecret` if the other site refuses this site's code; `WrongSecret` if its verdict has another code;
-/// `IsRefused` if its verdict is a refusal.
+/// Errors: `NotSent`; `Refuses` if `refusal` is one, after it was sent, and nothing is read; `Silent` if the verdict, or the code that it
+/// needs, didn't come; else, in order: `IsRefused` with `WrongSecret` if the other site refuses this site's code, which needs no code;
+/// `WrongSecret` if its verdict has another code; `IsRefused` if its verdict is a refusal.
 pub fn end_hello<S: Source, W: Sink>(
     source: &mut S,
     sink: &mut W,
@@ -251,9 +254,9 @@ pub fn end_hello<S: Source, W: Sink>(
 /// most 126 with one. At `NotSent` the sink has taken a prefix of the opening, and nothing was read; or the opening and a prefix of the
 /// offer, and the dialer's opening was read.
 ///
-/// Errors: `NotSent`; `Silent` if too little came; else, by the bytes that came, in order: `OtherProtocol`; `OtherVersion`; `IsRefused`
-/// with `WrongSecret` if the other site refuses this site's code; `WrongSecret`, after the refusal is sent to the other site; `IsRefused`
-/// if the other site's verdict is a refusal.
+/// Errors: `NotSent`; then each part is judged once it has come, and it is `Silent` if the next one doesn't come; in order:
+/// `OtherProtocol`; `OtherVersion`; `IsRefused` with `WrongSecret` if the other site refuses this site's code; `WrongSecret`, after the
+/// refusal is sent to the other site; `IsRefused` if the other site's verdict is a refusal.
 pub fn accept_hello<S: Source, W: Sink>(
     source: &mut S,
     sink: &mut W,

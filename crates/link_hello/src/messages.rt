@@ -34,7 +34,7 @@ pub(crate) fn put(out: &mut Message, bytes: &[u8])
     let _ = out.try_extend_from_slice(bytes);
 }
 
-// Writes bytes. `NotSent`: the sink failed.
+// Writes bytes. `NotSent`: the sink failed, and has taken a prefix of them.
 pub(crate) fn write_message<W: Sink>(sink: &mut W, bytes: &[u8]) -> Result<(), HelloFault>
     requires { W.failed sink.old ≡ false }
     ensures written { OnOk result (Appends (W.taken sink.old) (W.taken sink.new) bytes.now) }
@@ -82,7 +82,8 @@ pub(crate) fn read_exactly<S: Source>(source: &mut S, piece: &mut [u8]) -> Resul
     }
 }
 
-// Writes the front of both first messages: the letters, the version and a nonce.
+// Writes the front of both first messages: the letters, the version and a nonce. `NotSent`: the sink failed, and has taken a
+// prefix of it.
 pub(crate) fn write_opening<W: Sink>(sink: &mut W, nonce: &[u8; 32]) -> Result<(), HelloFault>
     requires { W.failed sink.old ≡ false }
     ensures written { OnOk result
@@ -100,8 +101,8 @@ pub(crate) fn write_opening<W: Sink>(sink: &mut W, nonce: &[u8; 32]) -> Result<(
     write_message(sink, &message)
 }
 
-// Reads that front, and returns its nonce. Errors: `Silent` where less came; then, in order, `OtherProtocol` and `OtherVersion`, by the
-// first five bytes, and nothing is read after them.
+// Reads the front of the other site's first message, and returns its nonce. Errors, in order: `Silent` if fewer than five bytes
+// came; by these, `OtherProtocol` and `OtherVersion`, and nothing is read after them; `Silent` if the nonce didn't come.
 pub(crate) fn read_opening<S: Source>(source: &mut S) -> Result<[u8; 32], HelloFault>
     requires { S.failed source.old ≡ false }
     ensures read { IfOk result (λ nonce.

@@ -50,7 +50,7 @@ impl Refusal {
     }
 }
 
-// The refusal of a byte. `None` if the byte is a welcome.
+// The refusal of a byte. `None` if the byte is a welcome; `Unknown` if it is the number of no other refusal.
 pub(crate) fn refusal_of(number: u8) -> Option<Refusal>
     ensures welcome { (result ≡ None) ↔ (number ≡ 0) }
     ensures refusal { IfSome result (λ refusal. IsNumberOf refusal number) }

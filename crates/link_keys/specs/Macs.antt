@@ -5,11 +5,11 @@ use Rattle.sha2.specs.Hashers.{Holds256}
 use Rattle.sha2.specs.Sha256.{sha256}
 use Rattle.link_keys.specs.declared.mac.Mac.{Mac}
 
--- each byte of a key, changed by a mask
+-- each byte of a key, XORed with a mask
 abbrev pub masked : List ℕ → ℕ → List ℕ
 masked key mask = map (λ b. bit_xor b mask) key
 
--- a key of 32 bytes and 32 zeros, which are a block of 64, each byte changed by a mask
+-- a key of 32 bytes and 32 zeros, which are a block of 64, each byte XORed with a mask
 abbrev pub pad : List ℕ → ℕ → List ℕ
 pad key mask = masked key mask ++ replicate 32 mask
 

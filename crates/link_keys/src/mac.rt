@@ -11,7 +11,7 @@ const INNER: u8 = 0x36;
 // The mask of the outer hash (RFC 2104's opad).
 const OUTER: u8 = 0x5c;
 
-// Each byte of a key, changed by a mask.
+// Each byte of a key, XORed with a mask.
 fn masked_key(key: &[u8; 32], mask: u8) -> [u8; 32]
     ensures { result ≡ masked key.now mask }
 {

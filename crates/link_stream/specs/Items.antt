@@ -19,11 +19,11 @@ IsFrameSize size = (LEAST_LENGTH ≤ size) × (size ≤ MOST_LENGTH)
 abbrev pub IsSize : ℕ → Type 0
 IsSize size = (size ≡ 0) ⊎ IsFrameSize size
 
--- a length that a frame may have, and as many bytes
+-- bytes are a length that a frame may have, and as many bytes after it
 abbrev pub IsFrame : List ℕ → Type 0
 IsFrame bytes = (4 ≤ length bytes) × IsFrameSize (size_in bytes) × (length bytes ≡ 4 + size_in bytes)
 
--- a length that an item may have, and as many bytes
+-- bytes are a length that an item may have, and as many bytes after it
 abbrev pub IsItemBytes : List ℕ → Type 0
 IsItemBytes bytes = (4 ≤ length bytes) × IsSize (size_in bytes) × (length bytes ≡ 4 + size_in bytes)
 
@@ -34,12 +34,12 @@ beat = 0 ∷ 0 ∷ 0 ∷ 0 ∷ []
 -- the bytes of an item
 abbrev pub item_bytes : Item → List ℕ
 item_bytes Beat = beat
-item_bytes (Frame bytes) = bytes.items
+item_bytes (Frame bytes) = bytes
 
 -- the bytes of an item that isn't a beat are a frame's
 abbrev pub IsItem : Item → Type 0
 IsItem Beat = Unit {0}
-IsItem (Frame bytes) = IsFrame bytes.items
+IsItem (Frame bytes) = IsFrame bytes
 
 -- bytes begin with a length that no item has
 abbrev pub HasBadLength : List ℕ → Type 0
@@ -53,7 +53,7 @@ HasWholeItem bytes size = IsSize (size_in bytes) × (size ≡ 4 + size_in bytes)
 abbrev pub IsPart : List ℕ → Type 0
 IsPart bytes = (length bytes < 4) ⊎ (IsSize (size_in bytes) × (length bytes < 20 + size_in bytes))
 
--- a receiver gives no count that another one has the bytes of
+-- an acknowledgement as a receiver gives it: its count is less than the numbers of the other two
 abbrev pub IsAcknowledgement : Acknowledgement → Type 0
 IsAcknowledgement (Taken count) = count < 2 ^ 64 - 2
 IsAcknowledgement Behind = Unit {0}

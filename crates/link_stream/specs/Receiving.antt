@@ -23,7 +23,7 @@ pub record HasRead (before after : Option (List ℕ)) (old new : TaggedState) : 
 abbrev pub HasRightTag : TaggedState → Type 0
 HasRightTag stream = (size : ℕ) × HasWholeItem stream.held size × HasTag stream.key stream.taken size stream.held
 
--- they begin with an item, and what follows isn't its tag
+-- the bytes that are held begin with an item, and what follows isn't its tag
 abbrev pub HasWrongTag : TaggedState → Type 0
 HasWrongTag stream = (size : ℕ) × HasWholeItem stream.held size × (HasTag stream.key stream.taken size stream.held → ⊥)
 

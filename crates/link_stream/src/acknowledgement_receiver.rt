@@ -10,8 +10,8 @@ use link_keys::{Key, TAG_BYTES};
 use std::alloc::Global;
 use std::marker::Model;
 
-// The next acknowledgement, taken from the front of what is held. `None` exactly where less than one and its tag is held. A fault changes
-// nothing. Errors, in order: `WrongTag`, `Exhausted`, `Memory`.
+// The next acknowledgement, taken from the front of what is held. `None` exactly where less than one and its tag is held. A fault
+// changes nothing. Errors, in order: 1 `WrongTag`; 2 `Exhausted`, if no counter is left; 3 `Memory`.
 fn next_held(stream: &mut TaggedBytes) -> Result<Option<Acknowledgement>, ReceiveFault>
     ensures given { IfOk result (λ next. IfSome next (λ given. IsAcknowledgement given
         × TakesTagged stream.old (acknowledgement_bytes given) stream.new)) }
@@ -24,7 +24,7 @@ fn next_held(stream: &mut TaggedBytes) -> Result<Option<Acknowledgement>, Receiv
         return Ok(None);
     }
     match stream.take(ACKNOWLEDGEMENT_BYTES) {
-        Ok(bytes) => Ok(Some(acknowledgement_in(&bytes))),
+        Ok(bytes) => Ok(Some(acknowledgement_in(bytes.as_slice()))),
         Err(fault) => Err(fault),
     }
 }
@@ -57,7 +57,8 @@ impl AcknowledgementReceiver {
         }
     }
 
-    /// Takes the next bytes of the stream, as many as came. Errors, in order: the first fault once more, if there was one; `Memory`.
+    /// Takes the next bytes of the stream, as many as came. A fault leaves what is held as it is, loses the piece, and is the fault from
+    /// then on. Errors, in order: 1 the first fault once more, if there was one; 2 `Memory`.
     pub fn feed(&mut self, piece: &[u8]) -> Result<(), ReceiveFault>
         ensures fed { OnOk result (self.new.stream
             ≡ record self.old.stream { held = self.old.stream.held ++ piece.now }) }

@@ -3,6 +3,7 @@ ghost use Rattle.link_stream.specs.Items.{HasBadLength, HasWholeItem, IsFrame, I
 ghost use Rattle.link_stream.specs.Items.{IsPart, IsSize, item_bytes, size_in};
 
 use delta_codec::{LEAST_LENGTH, MOST_LENGTH};
+use dots::SharedBytes;
 use link_keys::TAG_BYTES;
 
 /// The bytes of a beat.
@@ -14,7 +15,7 @@ pub enum Item {
     /// It only says that its sender lives.
     Beat,
     /// The bytes of a frame, its length in front.
-    Frame(Vec<u8>),
+    Frame(SharedBytes),
 }
 
 // A length has another value than an item may have.
@@ -48,7 +49,8 @@ pub(crate) fn is_frame(bytes: &[u8]) -> bool
     size >= LEAST_LENGTH && size <= MOST_LENGTH && bytes.len() - 4 == size
 }
 
-// How many bytes the item has that the bytes begin with, without its tag. `None` exactly where the item and its tag aren't all there yet.
+// How many bytes the item has that the bytes begin with, without its tag. `None` exactly where the item and its tag aren't all
+// there yet. `BadLength` exactly where the first four bytes are a length that no item has.
 pub(crate) fn whole_item(bytes: &[u8]) -> Result<Option<usize>, BadLength>
     ensures whole { IfOk result (λ next. IfSome next (λ size. HasWholeItem bytes.now size)) }
     ensures part { (result ≡ Ok None) → IsPart bytes.now }
@@ -69,12 +71,12 @@ pub(crate) fn whole_item(bytes: &[u8]) -> Result<Option<usize>, BadLength>
 
 impl Item {
     // The item that these bytes are.
-    pub(crate) fn of(bytes: Vec<u8>) -> Item
-        requires { IsItemBytes bytes.items }
-        ensures bytes { item_bytes result ≡ bytes.items }
+    pub(crate) fn of(bytes: SharedBytes) -> Item
+        requires { IsItemBytes bytes }
+        ensures bytes { item_bytes result ≡ bytes }
         ensures within { IsItem result }
     {
-        if bytes.len() == 4 {
+        if bytes.as_slice().len() == 4 {
             drop(bytes);
             return Item::Beat;
         }

@@ -35,7 +35,7 @@ fn next_held(stream: &mut TaggedBytes) -> Result<Option<Item>, ReceiveFault>
     }
 }
 
-// The fault at the end of a stream of which less than an item and its tag is held.
+// The fault at the end of a stream of which less than an item and its tag is held: `Ended` if nothing is held, otherwise `CutOff`.
 fn end_fault(stream: &TaggedBytes) -> ReceiveFault
     requires { IsPart stream.now.held }
     ensures cause { (failed : Bool) → IsCause result stream.now true failed }
@@ -49,6 +49,7 @@ fn end_fault(stream: &TaggedBytes) -> ReceiveFault
 }
 
 // The next item of a stream, if it is held; else one read, after which no item is returned. A fault leaves the stream as it is.
+// The errors are those of `recv` after its first.
 #[tactic(auto, using(crate::proofs::Giving::gives_of_keeps, crate::proofs::Giving::gives_none))]
 fn advance<S: Source>(
     stream: &mut TaggedBytes,
@@ -119,7 +120,7 @@ impl ItemReceiver {
 
     /// Returns the next item of the stream, if it and its tag are held, and reads nothing then: the bytes that stand first, up to the end
     /// of an item whose tag is right under the number of items given before. Else reads `source` once, at most 16,384 bytes, and returns
-    /// `None`: the caller calls again.
+    /// `None`: the caller calls again. The source has not failed, unless this receiver has returned a fault.
     ///
     /// Errors, in order: the first fault again, if there was one, and nothing is read; `BadLength`, `WrongTag`, `Exhausted` and `Memory`,
     /// by the bytes that are held; if those are less than an item and its tag, `Failed` if the source fails, `Ended` or `CutOff` if it has

@@ -7,6 +7,7 @@ ghost use Rattle.link_stream.specs.Tagged.{HasTag, IsTagFault, TakesTagged};
 
 use crate::ReceiveFault;
 use ami_text::Source;
+use dots::SharedBytes;
 use held_bytes::HeldBytes;
 use link_keys::{Key, TAG_BYTES, same_bytes, tag};
 use std::alloc::{AllocError, Global};
@@ -22,6 +23,13 @@ fn has_tag(key: &Key, counter: u64, bytes: &[u8], size: usize) -> bool
 {
     let (item, rest) = bytes.split_at(size);
     same_bytes(&rest[..TAG_BYTES], &tag(key, counter, item))
+}
+
+// A copy of bytes, which its owners share. Fails only when out of memory.
+fn shared_copy(alloc: Global, bytes: &[u8]) -> Result<SharedBytes, AllocError>
+    ensures { IfOk result (λ copy. copy ≡ bytes.now) }
+{
+    SharedBytes::new(alloc, Vec::from_slice(alloc, bytes)?)
 }
 
 // What was read of a stream and not yet taken, the key of its direction, and how many items were taken, which is the next one's counter.
@@ -42,7 +50,7 @@ impl Model for TaggedBytes {
 }
 
 impl TaggedBytes {
-    // Nothing was read.
+    // Nothing was read yet. Takes no memory.
     pub fn new(alloc: Global, key: Key) -> TaggedBytes
         ensures { result ≡ record { key = key; taken = 0; held = [] } }
     {
@@ -71,11 +79,11 @@ impl TaggedBytes {
     }
 
     // Takes the first `size` bytes and their tag from the front of what is held, and returns these bytes. A fault changes nothing.
-    // Errors, in order: `WrongTag`, `Exhausted`, `Memory`.
-    pub fn take(&mut self, size: usize) -> Result<Vec<u8>, ReceiveFault>
+    // Errors, in order: 1 `WrongTag`; 2 `Exhausted`, if no counter is left; 3 `Memory`.
+    pub fn take(&mut self, size: usize) -> Result<SharedBytes, ReceiveFault>
         requires { size + TAG_BYTES ≤ length self.old.held }
-        ensures taken { IfOk result (λ bytes. TakesTagged self.old bytes.items self.new
-            × (bytes.items ≡ take size self.old.held)) }
+        ensures taken { IfOk result (λ bytes. TakesTagged self.old bytes self.new
+            × (bytes ≡ take size self.old.held)) }
         ensures err { OnErr result (self.new ≡ self.old) }
         ensures wrong { IsErrOf result ReceiveFault.WrongTag
             ↔ (HasTag self.old.key self.old.taken size self.old.held → ⊥) }
@@ -89,7 +97,7 @@ impl TaggedBytes {
             return Err(ReceiveFault::Exhausted);
         }
         let (item, _) = held.split_at(size);
-        let Ok(bytes) = Vec::from_slice(self.alloc, item) else {
+        let Ok(bytes) = shared_copy(self.alloc, item) else {
             return Err(ReceiveFault::Memory);
         };
         self.held.take_front(size + TAG_BYTES);
@@ -97,8 +105,8 @@ impl TaggedBytes {
         Ok(bytes)
     }
 
-    // Reads once, and holds what came. False exactly at the end of the stream. Errors: `Failed` where the source failed; `Memory`, and
-    // what came is lost.
+    // Reads once, at most 16,384 bytes, and holds what came. False exactly at the end of the stream. A fault leaves what is held
+    // as it is. Errors, in order: 1 `Failed`, if the source failed; 2 `Memory`, and what came is lost.
     pub fn read_piece<S: Source>(&mut self, source: &mut S) -> Result<bool, ReceiveFault>
         requires { S.failed source.old ≡ false }
         ensures read { OnOk result

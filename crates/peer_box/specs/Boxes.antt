@@ -23,5 +23,5 @@ emptied box = record box { whole_due = true; frames = [] }
 abbrev pub IsTakenBy : BoxState → Due → BoxState → Type 0
 IsTakenBy old Whole new = (old.whole_due ≡ true) × (new ≡ record old { whole_due = false })
 IsTakenBy old (Frame bytes) new =
-    (old.whole_due ≡ false) × (old.frames ≡ bytes.items ∷ new.frames) × (new ≡ record old { frames = new.frames })
+    (old.whole_due ≡ false) × (old.frames ≡ bytes ∷ new.frames) × (new ≡ record old { frames = new.frames })
 IsTakenBy old Nothing new = (old.whole_due ≡ false) × (old.frames ≡ []) × (new ≡ old)

@@ -2,6 +2,7 @@ ghost use Rattle.std.specs.Prelude.{◌≡◌, ◌⊎◌, ◌+◌, ◌<◌, ◌�
 ghost use Rattle.std.specs.Prelude.{OnOk, ◌↔◌, false, length, true};
 ghost use Rattle.peer_box.specs.Boxes.{IsTakenBy, bytes_waiting, emptied};
 
+use dots::SharedBytes;
 use std::alloc::{AllocError, Global};
 use std::collections::VecDeque;
 use std::marker::Model;
@@ -17,25 +18,24 @@ pub enum Due {
     /// A frame of all that the site knows at that time.
     Whole,
     /// This frame.
-    Frame(Vec<u8>),
+    Frame(SharedBytes),
 }
 
 /// The box of one peer. Frames are put into it in the order in which the site made them, and its link takes them in that order. Where more
-/// bytes would wait than its limit, it gives up all of them, and a whole is due in their place. The limit counts the bytes of frames, and
-/// no memory beside them: frames without bytes, which no site makes, would not count.
+/// bytes would wait than its limit, it gives up all of them, and a whole is due in their place. The limit counts the bytes of each frame
+/// that waits, even if a journal or other boxes share them, and no other memory. A frame without bytes, which no site makes, counts as 0.
 #[derive(Drop)]
 pub struct PeerBox {
-    alloc: Global,
     limit: usize,
     is_open: bool,
     whole_due: bool,
-    frames: VecDeque<Vec<u8>>,
+    frames: VecDeque<SharedBytes>,
     // How many bytes the frames have together.
     waiting: usize,
 }
 
 impl Model for PeerBox {
-    ghost use Rattle.std.specs.Prelude.{◌≡◌, ◌≤◌, map};
+    ghost use Rattle.std.specs.Prelude.{◌≡◌, ◌≤◌};
     ghost use Rattle.peer_box.specs.Boxes.{BoxState, bytes_waiting};
 
     ghost Value = { BoxState };
@@ -44,11 +44,10 @@ impl Model for PeerBox {
       limit = b.limit;
       is_open = b.is_open;
       whole_due = b.whole_due;
-      frames = map (λ frame. frame.items) b.frames.items;
+      frames = b.frames.items;
     } };
 
-    ghost invariant = { λ b. (b.waiting ≡ bytes_waiting (map (λ frame. frame.items) b.frames.items))
-        × (b.waiting ≤ b.limit) };
+    ghost invariant = { λ b. (b.waiting ≡ bytes_waiting b.frames.items) × (b.waiting ≤ b.limit) };
 }
 
 impl PeerBox {
@@ -58,7 +57,6 @@ impl PeerBox {
             ≡ record { limit = limit; is_open = false; whole_due = false; frames = [] } }
     {
         PeerBox {
-            alloc,
             limit,
             is_open: false,
             whole_due: false,
@@ -107,25 +105,27 @@ impl PeerBox {
     }
 
     // Adds a frame for which there is room. It fails only when out of memory, and then nothing is changed.
-    fn keep(&mut self, frame: &[u8]) -> Result<(), AllocError>
+    fn keep(&mut self, frame: &SharedBytes) -> Result<(), AllocError>
         requires { bytes_waiting self.old.frames + length frame.now ≤ self.old.limit }
         ensures ok { OnOk result (self.new
             ≡ record self.old { frames = self.old.frames ++ frame.now ∷ [] }) }
         ensures err { OnErr result (self.new ≡ self.old) }
     {
-        let bytes = Vec::from_slice(self.alloc, frame)?;
-        if self.frames.push_back(bytes).is_err() {
+        let copy = frame.copy()?;
+        if self.frames.push_back(copy).is_err() {
             return Err(AllocError);
         }
-        self.waiting += frame.len();
+        self.waiting += frame.as_slice().len();
         Ok(())
     }
 
-    /// Puts a frame behind those that wait. A box that is closed, or in which a whole is due, stays as it is: a whole that is made later
-    /// has what the frame has. A box in which the frame has no room gives up its frames, and a whole is due.
+    /// Puts a frame behind those that wait: the box becomes one more owner of its bytes. A box that is closed, or in which a whole is
+    /// due, stays as it is: a whole that is made later has what the frame has. A box in which the frame has no room gives up its frames, and
+    /// a whole is due.
     ///
-    /// `AllocError`: there was room, but an allocation was refused. The box gives up its frames, and a whole is due.
-    pub fn put(&mut self, frame: &[u8]) -> Result<(), AllocError>
+    /// `AllocError`: there was room, but an allocation was refused, or the bytes have 2^63 - 1 owners. The box gives up its frames, and a
+    /// whole is due.
+    pub fn put(&mut self, frame: &SharedBytes) -> Result<(), AllocError>
         ensures ignored { (self.old.is_open ≡ false) ⊎ (self.old.whole_due ≡ true)
             → (result ≡ Ok tt) × (self.new ≡ self.old) }
         ensures full { self.old.is_open ≡ true → self.old.whole_due ≡ false
@@ -140,7 +140,7 @@ impl PeerBox {
         if !self.is_open || self.whole_due {
             return Ok(());
         }
-        if frame.len() > self.limit - self.waiting {
+        if frame.as_slice().len() > self.limit - self.waiting {
             self.require_whole();
             return Ok(());
         }
@@ -151,8 +151,8 @@ impl PeerBox {
         kept
     }
 
-    /// Takes what is due: a whole, if one is, which then is due no more; else the frame that has waited longest. A frame that is put while
-    /// the caller makes the whole is put behind it, and says at worst what the whole says too.
+    /// Takes what is due: a whole, if one is, which then is due no more; else the frame that has waited longest; else nothing. A
+    /// frame that is put while the caller makes the whole is put behind it, and says at worst what the whole says too.
     ///
     /// A caller that can't make the whole, as when it is out of memory, calls `require_whole`: until then no whole is due, and the peer may
     /// lack what the site knows. If the peer's link ends before the whole was sent, the next `open` makes one due again.
@@ -166,7 +166,7 @@ impl PeerBox {
         match self.frames.pop_front() {
             None => Due::Nothing,
             Some(frame) => {
-                self.waiting -= frame.len();
+                self.waiting -= frame.as_slice().len();
                 Due::Frame(frame)
             }
         }

@@ -46,7 +46,8 @@ impl Roll {
         }
     }
 
-    /// Judges another site's card, and keeps its store and start count where nothing is wrong with it. `own` is this site's card.
+    /// Judges another site's card, keeps its store and start count where nothing is wrong with it, and returns its site. `own` is
+    /// this site's card.
     ///
     /// Errors, in order: `NoSuchSite`, `OtherQueues`, `Itself`, `OlderCopy`, `SameNumber`, by `judge`; `TakenNumber` if the card's number
     /// was seen with another store; `OlderCopy` if it was seen with this store and a greater start count. They change nothing.

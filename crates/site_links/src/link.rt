@@ -4,7 +4,7 @@ ghost use Rattle.site_links.specs.declared.limits.TheConstants.{MOST_CAPACITY};
 use crate::log::{InOrder, Log, Roles};
 use crate::{LinkReceiver, LinkSender};
 use crossbeam_channel::bounded_with;
-use dots::{Bytes, Memory};
+use dots::{Memory, SharedBytes};
 use std::alloc::Global;
 
 /// A link from one site to another: it carries items of bytes in order, from its sender to its receiver (this project's own). A link is
@@ -23,7 +23,9 @@ impl Link {
         ensures receiver { IfOk result (λ both.
             (both.1.received ≡ []) × (both.1.ended ≡ false)) }
     {
-        let (to, from, mut writer) = bounded_with::<Bytes, Log, InOrder, Global>(alloc, capacity)?;
+        let (to, from, mut writer) = bounded_with::<SharedBytes, Log, InOrder, Global>(
+            alloc, capacity,
+        )?;
         let reader = to.another::<Roles>(&mut writer);
         let sender = LinkSender {
             end: to,

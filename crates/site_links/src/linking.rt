@@ -27,7 +27,8 @@ pub struct SiteLinks {
 }
 
 impl SiteLinks {
-    /// Removes and returns the ends of the last site.
+    /// Removes and returns the ends of the last site. `None` if there is no site. Both lists have one entry for
+    /// each site.
     pub fn pop(&mut self) -> Option<LinkEnds>
         requires { vec_len self.old.to ≡ vec_len self.old.from }
         ensures to { IfSome result (λ ends.
@@ -48,7 +49,8 @@ impl SiteLinks {
     }
 }
 
-// Appends both ends of one new link to others.
+// Appends both ends of one new link to others. Fails only when out of memory; then one end may have been
+// appended.
 fn add_link(
     alloc: Global,
     to: &mut Vec<LinkSender>,
@@ -65,7 +67,9 @@ fn add_link(
     Ok(())
 }
 
-// Links a site with each other one. The ends that send are appended to those that their sites have already.
+// A new link from each other site to this one. Each other site's end, which sends, is appended to its ends; this
+// site's ends, which receive, are returned by the numbers of the other sites. Fails only when out of memory;
+// then some links may have been made.
 fn link_to(
     alloc: Global,
     site: usize,

@@ -2,7 +2,7 @@
 ghost use Rattle.std.specs.Prelude.{◌≡◌, ◌++◌, ◌∷◌, [], ◌≤◌, length};
 
 use crossbeam_channel::protocol::{Join, Lesson, Outcome, Protocol, Split};
-use dots::Bytes;
+use dots::SharedBytes;
 use std::collections::LinkedList;
 
 /// The rights of a pass, and what it has sent and received. No value of it is made: it exists only in proofs.
@@ -12,15 +12,15 @@ pub struct Log {
     /// Whether it may receive.
     pub receives: bool,
     /// All that it has sent, where it may.
-    pub sent: LinkedList<Bytes>,
+    pub sent: LinkedList<SharedBytes>,
     /// All that it has received, where it may.
-    pub received: LinkedList<Bytes>,
+    pub received: LinkedList<SharedBytes>,
 }
 
 /// The invariant of a link: the sent items are the received ones, followed by those in the channel.
 pub struct InOrder;
 
-impl Protocol<Bytes, Log> for InOrder {
+impl Protocol<SharedBytes, Log> for InOrder {
     ghost use Rattle.std.specs.Prelude.{true, []};
     ghost use Rattle.site_links.specs.Relaying.{IsRelayed, log};
 
@@ -53,20 +53,20 @@ impl Join<Log> for Roles {
 /// An item was sent.
 pub struct Sent;
 
-impl Outcome<Bytes, Log> for Sent {
+impl Outcome<SharedBytes, Log> for Sent {
     ghost use Rattle.site_links.specs.Relaying.{log};
 
     ghost then = { λ v x w. w ≡ log v.sends v.receives (v.sent ++ x ∷ []) v.received };
 }
 
-impl Lesson<Bytes, Log> for Sent {
+impl Lesson<SharedBytes, Log> for Sent {
     ghost fact = { λ v items. Unit {0} };
 }
 
 /// An item was received; no more were received than may be sent.
 pub struct Received;
 
-impl Outcome<Bytes, Log> for Received {
+impl Outcome<SharedBytes, Log> for Received {
     ghost use Rattle.site_links.specs.Relaying.{log};
     ghost use Rattle.site_links.specs.declared.limits.TheConstants.{MOST_ITEMS};
 
@@ -74,13 +74,13 @@ impl Outcome<Bytes, Log> for Received {
         × (length (v.received ++ x ∷ []) ≤ MOST_ITEMS) };
 }
 
-impl Lesson<Bytes, Log> for Received {
+impl Lesson<SharedBytes, Log> for Received {
     ghost fact = { λ v items. Unit {0} };
 }
 
 /// The items in the channel are those that were sent and not yet received.
 pub struct Total;
 
-impl Lesson<Bytes, Log> for Total {
+impl Lesson<SharedBytes, Log> for Total {
     ghost fact = { λ v items. v.sent ≡ v.received ++ items };
 }

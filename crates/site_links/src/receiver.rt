@@ -2,15 +2,15 @@ ghost use Rattle.std.specs.Prelude.{◌≡◌, ◌++◌, ◌∷◌, [], IfNone, 
 
 use crate::log::{InOrder, Log, Received};
 use crossbeam_channel::{Pass, RuledReceiver};
-use dots::Bytes;
+use dots::SharedBytes;
 use std::marker::Model;
 use std::sync::Wait;
 
 /// The end of a link that receives.
 #[derive(Drop)]
 pub struct LinkReceiver {
-    pub(crate) end: RuledReceiver<Bytes, Log, InOrder>,
-    pub(crate) pass: Pass<Bytes, Log>,
+    pub(crate) end: RuledReceiver<SharedBytes, Log, InOrder>,
+    pub(crate) pass: Pass<SharedBytes, Log>,
     pub(crate) received: u64,
     pub(crate) has_ended: bool,
 }
@@ -38,9 +38,9 @@ impl Model for LinkReceiver {
 impl LinkReceiver {
     /// Waits for the next item. `None` if none is left and the sender is dropped: then the link has ended, and every later call
     /// returns `None`.
-    pub fn recv<R: Wait>(&mut self, rt: &R) -> Option<Vec<u8>>
+    pub fn recv<R: Wait>(&mut self, rt: &R) -> Option<SharedBytes>
         ensures received { IfSome result (λ bytes.
-            self.new ≡ record self.old { received = self.old.received ++ bytes.items ∷ [] }) }
+            self.new ≡ record self.old { received = self.old.received ++ bytes ∷ [] }) }
         ensures ended { IfNone result (self.new ≡ record self.old { ended = true }) }
         ensures stays { self.old.ended ≡ true → IsNone result }
     {
@@ -56,7 +56,7 @@ impl LinkReceiver {
         match end.recv_as::<Received, R>(rt, pass) {
             Ok(bytes) => {
                 *received += 1;
-                Some(bytes.into_vec())
+                Some(bytes)
             }
             Err(_) => {
                 *has_ended = true;

@@ -3,15 +3,15 @@ ghost use Rattle.std.specs.Prelude.{◌≡◌, ◌++◌, ◌∷◌, [], IfErr, I
 use crate::MOST_ITEMS;
 use crate::log::{InOrder, Log, Sent};
 use crossbeam_channel::{Pass, RuledSender};
-use dots::Bytes;
+use dots::SharedBytes;
 use std::marker::Model;
 use std::sync::Wait;
 
 /// The end of a link that sends.
 #[derive(Drop)]
 pub struct LinkSender {
-    pub(crate) end: RuledSender<Bytes, Log, InOrder>,
-    pub(crate) pass: Pass<Bytes, Log>,
+    pub(crate) end: RuledSender<SharedBytes, Log, InOrder>,
+    pub(crate) pass: Pass<SharedBytes, Log>,
     pub(crate) sent: u64,
     pub(crate) is_down: bool,
 }
@@ -38,10 +38,10 @@ impl Model for LinkSender {
 impl LinkSender {
     /// Sends these bytes as the next item, and waits while the link is full. Returns the bytes if the receiver is dropped, or 2^40
     /// items were sent: then the link is down, and every later call returns its bytes too.
-    pub fn send<R: Wait>(&mut self, rt: &R, bytes: Vec<u8>) -> Result<(), Vec<u8>>
+    pub fn send<R: Wait>(&mut self, rt: &R, bytes: SharedBytes) -> Result<(), SharedBytes>
         ensures sent { OnOk result
-            (self.new ≡ record self.old { sent = self.old.sent ++ bytes.items ∷ [] }) }
-        ensures back { IfErr result (λ back. back.items ≡ bytes.items) }
+            (self.new ≡ record self.old { sent = self.old.sent ++ bytes ∷ [] }) }
+        ensures back { IfErr result (λ back. back ≡ bytes) }
         ensures down { IfErr result (λ back. self.new ≡ record self.old { down = true }) }
         ensures stays { self.old.down ≡ true → IsErr result }
     {
@@ -55,24 +55,24 @@ impl LinkSender {
             sent,
             is_down,
         } = self;
-        match end.send_as::<Sent, R>(rt, pass, Bytes::new(bytes)) {
+        match end.send_as::<Sent, R>(rt, pass, bytes) {
             Ok(()) => {
                 *sent += 1;
                 Ok(())
             }
             Err(refused) => {
                 *is_down = true;
-                Err(refused.into_inner().into_vec())
+                Err(refused.into_inner())
             }
         }
     }
 
     /// Sends these bytes as the next item if the link has room for them, and never waits. Returns the bytes if the link is full, or is
     /// down: the receiver is dropped, or 2^40 items were sent. A link that is down stays down.
-    pub fn offer<R: Wait>(&mut self, rt: &R, bytes: Vec<u8>) -> Result<(), Vec<u8>>
+    pub fn offer<R: Wait>(&mut self, rt: &R, bytes: SharedBytes) -> Result<(), SharedBytes>
         ensures sent { OnOk result
-            (self.new ≡ record self.old { sent = self.old.sent ++ bytes.items ∷ [] }) }
-        ensures back { IfErr result (λ back. back.items ≡ bytes.items) }
+            (self.new ≡ record self.old { sent = self.old.sent ++ bytes ∷ [] }) }
+        ensures back { IfErr result (λ back. back ≡ bytes) }
         ensures unsent { OnErr result (self.new ≡ record self.old { down = self.new.down }) }
         ensures stays { self.old.down ≡ true → IsErr result × (self.new.down ≡ true) }
     {
@@ -86,19 +86,19 @@ impl LinkSender {
             sent,
             is_down,
         } = self;
-        match end.try_send_as::<Sent, R>(rt, pass, Bytes::new(bytes)) {
+        match end.try_send_as::<Sent, R>(rt, pass, bytes) {
             Ok(()) => {
                 *sent += 1;
                 Ok(())
             }
             Err(refused) => {
                 *is_down = !refused.is_full();
-                Err(refused.into_inner().into_vec())
+                Err(refused.into_inner())
             }
         }
     }
 
-    /// Whether a send has returned its bytes, or an offer for which the link was not full. Takes no memory.
+    /// Whether the link is down: a send has returned its bytes, or an offer has although the link was not full. Takes no memory.
     pub fn down(&self) -> bool
         ensures { result ≡ self.now.down }
     {

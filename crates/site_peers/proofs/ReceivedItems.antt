@@ -112,12 +112,12 @@ received_held left before after old item new same takes =
 -- what beats and an item lead to: beats again, or a frame
 abbrev pub ItemOutcome : Option (List ℕ) → Option (List ℕ) → TaggedState → TaggedState → Item → Type 0
 ItemOutcome before after old new Beat = AreBeats before after old new
-ItemOutcome before after old new (Frame bytes) = HasGivenFrame before after old bytes.items new
+ItemOutcome before after old new (Frame bytes) = HasGivenFrame before after old bytes new
 
 outcome_of : (before between after : Option (List ℕ)) (old mid new : TaggedState) (item : Item) → AreBeats before between old mid
     → IsItem item → HasReceived between after mid (item_bytes item ∷ []) new → ItemOutcome before after old new item
 outcome_of before between after old mid new Beat are is one = beats_beat before between after old mid new are one
-outcome_of before between after old mid new (Frame bytes) are is one = beats_frame before between after old mid new bytes.items are is one
+outcome_of before between after old mid new (Frame bytes) are is one = beats_frame before between after old mid new bytes are is one
 
 pub item_after : (before between after : Option (List ℕ)) (old mid new : TaggedState) (next : Option Item) (item shown : Item) → AreBeats before between old mid
     → next ≡ Some item → item ≡ shown → IfSome next (λ it. IsItem it × HasReceived between after mid (item_bytes it ∷ []) new) → ItemOutcome before after old new shown

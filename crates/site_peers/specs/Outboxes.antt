@@ -9,6 +9,13 @@ use Rattle.site_journal.specs.declared.step.StepDeed.TheVariants.{Asked, Cut, To
 use Rattle.site_pumps.specs.Carried.{EachLink}
 use Rattle.site_peers.specs.Queues.{IsBegun, IsGiven, IsPut, QueueState}
 
+-- the frame of all that the site knew, if this is one
+abbrev pub whole_in : StepDeed → Option (List ℕ)
+whole_in (Whole whole) = Some whole
+whole_in (Cut frame) = None
+whole_in (Asked ask answer) = None
+whole_in (Took frame) = None
+
 -- what was done goes into a queue: the frame of a cut is put, a whole is given, and nothing else changes it
 abbrev pub GoesInto : QueueState → StepDeed → QueueState → Type 0
 GoesInto old (Cut (Some frame)) new = IsPut old frame new

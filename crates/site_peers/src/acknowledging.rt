@@ -46,7 +46,8 @@ impl<'a> Drop for StreamAcknowledger<'a> {
 }
 
 impl<'a> StreamAcknowledger<'a> {
-    // Nothing was read at this time.
+    // What acknowledges the bytes of this stream, with tags under this key. At the time `now`, in milliseconds, none was read.
+    // If the site was behind the peer before, it still is.
     pub fn new<R: Wait>(
         rt: &R,
         stream: &'a TcpStream,
@@ -70,7 +71,7 @@ impl<'a> StreamAcknowledger<'a> {
         }
     }
 
-    // Sends an acknowledgement.
+    // Sends an acknowledgement. It is given up after 4 seconds in which the peer takes no byte. Error: `NotSent`.
     fn send(&mut self, acknowledgement: Acknowledgement) -> Result<(), AcknowledgeFault> {
         let mut sink = StdSink::new(self.stream).with_waits(WRITE_WAITS);
         match self.sender.send(&mut sink, acknowledgement) {
@@ -79,12 +80,12 @@ impl<'a> StreamAcknowledger<'a> {
         }
     }
 
-    // Says that a frame was refused. A failure is ignored, since the link ends anyway.
+    // Sends the peer that its frame was refused. A failure is ignored, since the link ends anyway.
     pub fn refuse(&mut self) {
         let _ = self.send(Acknowledgement::Refused);
     }
 
-    // Asks for a whole, or notes that the site has caught up, if it is time.
+    // If it is time, asks for a whole, or notes that the site has caught up, and logs that if it is news. Error: `NotSent`.
     fn catch_up<R: Wait>(&mut self, rt: &R, now: u64) -> Result<(), AcknowledgeFault> {
         match self.lag.step(now) {
             LagStep::Wait => Ok(()),
@@ -100,6 +101,8 @@ impl<'a> StreamAcknowledger<'a> {
 }
 
 impl<'a, R: Wait + Clock> Acknowledge<R> for StreamAcknowledger<'a> {
+    // Counts the read, sends an acknowledgement if one is due, and then does as `catch_up`. Errors, in order: `Ending`;
+    // `NoClock`; `Late`, an item takes 60 seconds; `NotSent`.
     fn after_read(&mut self, rt: &R, count: usize) -> Result<(), AcknowledgeFault> {
         if self.ending.reason(rt).is_some() {
             return Err(AcknowledgeFault::Ending);
@@ -116,6 +119,7 @@ impl<'a, R: Wait + Clock> Acknowledge<R> for StreamAcknowledger<'a> {
         self.catch_up(rt, now)
     }
 
+    // Notes that an item has ended. A frame counts as taken, until `fall_behind` says that it wasn't.
     fn after_item(&mut self, is_frame: bool, held: usize) {
         self.time.after_item(held);
         if is_frame {
@@ -123,6 +127,7 @@ impl<'a, R: Wait + Clock> Acknowledge<R> for StreamAcknowledger<'a> {
         }
     }
 
+    // Notes that the site is behind the peer, and logs that if it is news.
     fn fall_behind(&mut self, rt: &R, fault: DeskFault) {
         self.lag.refuse();
         if self.heard.set_behind(rt, self.peer.site, true) {

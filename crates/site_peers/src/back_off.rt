@@ -52,7 +52,7 @@ impl BackOff {
         BackOff { next: FIRST_MILLIS }
     }
 
-    /// The pause after a connection that has ended so, in milliseconds. `random` is a random number.
+    /// The pause after a connection that has ended as `end` says, in milliseconds. `random` is a random number.
     pub fn pause(&mut self, end: DialEnd, random: u64) -> u64
         ensures up { end ≡ DialEnd.WasUp
             → (result ≡ 50 + random % 101) × (self.new ≡ 200) }

@@ -1,7 +1,7 @@
 use std::random::RandomSource;
 use std::time::Clock;
 
-// Milliseconds since an arbitrary start. `None`: the clock can't be read.
+// Milliseconds since an arbitrary start, at most 2^60. `None`: the clock can't be read.
 pub(crate) fn millis<R: Clock>(rt: &R) -> Option<u64> {
     match rt.monotonic() {
         Ok(now) => Some(now.as_millis().min(1 << 60) as u64),

@@ -13,7 +13,7 @@ const LAST_WAIT_MILLIS: u64 = 200;
 // How many bytes are read at a time after a link's end.
 const LAST_PIECE: usize = 4_096;
 
-// Reads and drops what the peer still sends, until it closes, sends nothing for 0.2 seconds, or 2 seconds are over.
+// Reads and drops what the peer still sends, until it closes, sends nothing for 0.2 seconds, 2 seconds are over, or a call fails.
 fn drain<R: Wait + Clock>(rt: &R, stream: &TcpStream) {
     let Some(begun) = millis(rt) else {
         return;
@@ -38,8 +38,9 @@ fn drain<R: Wait + Clock>(rt: &R, stream: &TcpStream) {
     }
 }
 
-// Ends the writing side of a stream so that the peer can read all that was written. A stream that is closed over unread bytes discards what
-// the peer has not read yet, so these bytes are read first, within a time.
+// Ends the writing side of a stream, and then drops what the peer still sends, for 2 seconds at most, so that the peer can read all that
+// was written: a stream that is closed over unread bytes discards what its peer has not read yet. The caller closes it. A failure is
+// ignored.
 pub(crate) fn close_gently<R: Wait + Clock>(rt: &R, stream: &TcpStream) {
     if stream.shutdown(Shutdown::Write).is_ok() {
         drain(rt, stream);

@@ -27,19 +27,19 @@ const CONNECT_MILLIS: u64 = 2_000;
 
 const MOST_ADDRESSES: usize = 4;
 
-// A link that was up for this long, in milliseconds, begins the pauses anew.
+// A link that was up, and fell this long after it was dialed or later, in milliseconds, begins the pauses anew.
 const LONG_MILLIS: u64 = 3_000;
 
 /// Why there is no link to a peer.
 #[derive(Clone, Copy, Debug, PartialEq, Eq, Error)]
 pub enum DialFault {
-    /// The address has no number.
+    /// The host's name or number leads to no address.
     #[error("no such address")]
     NoAddress,
-    /// The peer doesn't accept a connection.
+    /// None of the host's first 4 addresses accepts a connection within 2 seconds.
     #[error("cannot connect")]
     CannotConnect,
-    /// The system gives no random bytes, no clock, or no time limit for the stream.
+    /// The system gives no random bytes or no clock, or doesn't prepare the stream.
     #[error("not prepared")]
     NotPrepared,
     /// There was no hello.
@@ -56,7 +56,8 @@ pub enum DialFault {
     Ending,
 }
 
-// Connects to a host and a port.
+// Connects to a host and a port: to the first of its first 4 addresses that accepts within 2 seconds. Errors, in order: `NoAddress`,
+// `CannotConnect`.
 fn connect<R: Net<Listener = TcpListener, Stream = TcpStream>>(
     rt: &R,
     address: &str,
@@ -78,7 +79,8 @@ fn connect<R: Net<Listener = TcpListener, Stream = TcpStream>>(
     Err(DialFault::CannotConnect)
 }
 
-// Runs the hello over a stream that was dialed.
+// Runs the hello over a stream that was dialed, for which the peer has 3 seconds. Errors, in order: `NotPrepared`; `Hello`, those of
+// `meet_acceptor`.
 fn meet<R: Wait + Clock + RandomSource, G: Drop>(
     rt: &R,
     links: &PeerLinks<G>,
@@ -108,8 +110,9 @@ fn meet<R: Wait + Clock + RandomSource, G: Drop>(
     }
 }
 
-// Sends over a link what waits for its peer, until it falls or the site ends. This number of frames of others had been taken when the
-// peer's queue was opened.
+// Sends over a link a beat each second and what waits for its peer, until the link falls or the site ends. If the site was asked to end, it
+// sends what still waits first, for 2 seconds at most. `taken` frames of others had been taken when the peer's queue was opened. Returns
+// why it ended: `Ending`; `NotPrepared`, the clock can't be read; `Outlet`, the sink's fault; else `Send`.
 fn send<R: Wait + Clock + RandomSource, G: Ring<R> + Drop>(
     rt: &R,
     alloc: Global,
@@ -147,7 +150,9 @@ fn send<R: Wait + Clock + RandomSource, G: Ring<R> + Drop>(
     }
 }
 
-// Opens the queue of a peer whose link is up, sends, and closes it.
+// Opens the queue of a peer whose link is up, rings the bell for the whole that is due then, sends what waits, and closes the queue.
+// Meanwhile the link counts as up. The frames that were taken are counted first, so that the link asks again for a whole if more are taken.
+// Returns why sending ended.
 fn send_from_queue<R: Wait + Clock + RandomSource, G: Ring<R> + Drop>(
     rt: &R,
     alloc: Global,
@@ -167,7 +172,8 @@ fn send_from_queue<R: Wait + Clock + RandomSource, G: Ring<R> + Drop>(
     fault
 }
 
-// One link, from its dialing to its fall, and whether it was up.
+// Dials once, and runs the link until it falls. That it is up is logged. The stream is closed, gently if this site has refused the peer.
+// Returns whether there was a link, and why there is none any more.
 fn dial_once<
     R: Net<Listener = TcpListener, Stream = TcpStream> + Wait + Clock + RandomSource,
     G: Ring<R> + Drop,
@@ -192,7 +198,8 @@ fn dial_once<
     (true, fault)
 }
 
-// Why the site ends after a connection that has ended by this fault, if it does.
+// Why the site ends after a connection that has ended by this fault: the peer refuses it as `TakenNumber` or `OlderCopy`. `None`: it
+// doesn't end.
 fn reason_of(fault: DialFault) -> Option<EndReason> {
     match fault {
         DialFault::Hello(fault) => end_reason(fault),
@@ -200,7 +207,8 @@ fn reason_of(fault: DialFault) -> Option<EndReason> {
     }
 }
 
-// How a connection that has ended by this fault counts for the next one.
+// How a connection that has ended by this fault counts for the next one: as `Itself` or `Refused`, by the fault; else as `WasUp` if
+// `was_long`, its link was up and fell 3 seconds after the dialing or later; else as `Failed`.
 fn end_of(fault: DialFault, was_long: bool) -> DialEnd {
     match fault {
         DialFault::Hello(HelloFault::Refuses(Refusal::Itself)) => DialEnd::Itself,
@@ -213,7 +221,7 @@ fn end_of(fault: DialFault, was_long: bool) -> DialEnd {
     }
 }
 
-// Whether at least this time has passed, in milliseconds.
+// Whether at least `time` milliseconds have passed since `since`. False where the clock could not be read.
 fn has_passed<R: Clock>(rt: &R, since: Option<u64>, time: u64) -> bool {
     match (since, millis(rt)) {
         (Some(since), Some(now)) => now >= since.saturating_add(time),
@@ -221,7 +229,7 @@ fn has_passed<R: Clock>(rt: &R, since: Option<u64>, time: u64) -> bool {
     }
 }
 
-// Logs why a link is down, unless it is down for the same cause as before.
+// Logs why a link is down, unless it is down for the same cause as before, `last`.
 fn log_fault<R: Wait>(
     rt: &R,
     log: LinkLog<'_>,
@@ -234,7 +242,9 @@ fn log_fault<R: Wait>(
     }
 }
 
-// Dials a peer again and again, until the site ends.
+// Dials a peer again and again, with pauses, until the site ends, which cuts a pause short. It logs why a link falls, and why there is none
+// if the dialing before had another cause. A peer that turns out to be the site itself is noted. One that refuses the site as `TakenNumber`
+// or `OlderCopy` ends it.
 fn dial_until_end<
     R: Net<Listener = TcpListener, Stream = TcpStream> + Wait + Clock + RandomSource,
     G: Ring<R> + Drop,
@@ -267,8 +277,8 @@ fn dial_until_end<
 }
 
 /// Dials the peer at this place of the list, sends over the link what waits for it, and dials again when the link falls, until the site
-/// ends. Returns at once where there is no such place. A line is logged when a link is up, and when it is down for another cause than
-/// before. A peer that refuses the site as `TakenNumber` or `OlderCopy` ends it.
+/// ends. Returns at once where there is no such place. A line is logged when a link is up, when it falls, and when a dialing fails for
+/// another cause than the one before it. A peer that refuses the site as `TakenNumber` or `OlderCopy` ends it.
 pub fn dial_peer<
     R: Net<Listener = TcpListener, Stream = TcpStream> + Wait + Clock + RandomSource,
     G: Ring<R> + Drop,

@@ -29,7 +29,7 @@ pub enum EndReason {
     StoreFailed,
 }
 
-// Gives a reason, where none was given before. Returns whether none was.
+// Gives a reason, if none was given before. Returns true if none was; else the earlier one stays.
 fn give_first(reason: &mut Option<EndReason>, given: EndReason) -> bool
     ensures none { IsTrue result ↔ (reason.old ≡ None) }
     ensures first { reason.old ≡ None → reason.new ≡ Some given }
@@ -50,7 +50,7 @@ pub struct Ending {
 }
 
 impl Ending {
-    /// No reason was given.
+    /// The ending of a site that doesn't end yet.
     pub fn new() -> Ending {
         Ending {
             reason: Mutex::new(None),
@@ -58,7 +58,8 @@ impl Ending {
         }
     }
 
-    /// Ends the site for this reason, if it doesn't end yet. Returns whether it didn't.
+    /// Ends the site for this reason, if it doesn't end yet, and wakes the threads that wait in `wait_within`. Returns whether it didn't
+    /// end before.
     pub fn end<R: Wait>(&self, rt: &R, reason: EndReason) -> bool {
         let mut held = self.reason.lock(rt);
         let is_first = give_first(&mut held, reason);

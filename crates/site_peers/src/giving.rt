@@ -5,6 +5,7 @@ ghost use Rattle.site_peers.specs.Links.{inlet_fault, inlet_source, inlet_stream
 use crate::receiving::next_frame;
 use crate::{Acknowledge, InletFault, LinkInlet};
 use ami_text::Source;
+use dots::SharedBytes;
 use link_keys::Key;
 use link_stream::ItemReceiver;
 use site_journal::DeskFault;
@@ -28,14 +29,14 @@ impl<S: Source + Drop, A: Drop> LinkInlet<S, A> {
         }
     }
 
-    /// Why it gives nothing more, once it gives nothing.
+    /// Why it gives nothing more. `None`: it hasn't ended.
     pub fn fault(&self) -> Option<InletFault>
         ensures { result ≡ inlet_fault self.now }
     {
         self.fault
     }
 
-    /// What acknowledges its bytes.
+    /// Ends the inlet, and returns what acknowledges its bytes; no contract says this. Bytes that were read and not given are dropped.
     pub fn into_acknowledger(self) -> A {
         let LinkInlet {
             receiver,
@@ -62,7 +63,9 @@ impl<R: Wait, S: Source + Drop, A: Acknowledge<R> + Drop> Inlet<R> for LinkInlet
         HasStopped (S.left (inlet_source old)) (inlet_stream old) fault
         (S.ended (inlet_source new)) (S.failed (inlet_source new))) };
 
-    fn next(&mut self, rt: &R) -> Option<Vec<u8>> {
+    // Waits for the next frame, and has each read and each item noted by the acknowledger. `None`: it has ended, for `fault`, and
+    // reads no more.
+    fn next(&mut self, rt: &R) -> Option<SharedBytes> {
         if self.fault.is_some() {
             return None;
         }
@@ -81,7 +84,7 @@ impl<R: Wait, S: Source + Drop, A: Acknowledge<R> + Drop> Inlet<R> for LinkInlet
     }
 }
 
-// Notes that the site has dropped the last frame of a link, for which it has no room or no memory. The link goes on.
+// Has the acknowledger of a link note that the site has dropped its last frame, for this lack of room or memory. The link goes on.
 pub(crate) fn fall_behind<R, S: Source + Drop, A: Acknowledge<R> + Drop>(
     rt: &R,
     inlet: &mut LinkInlet<S, A>,

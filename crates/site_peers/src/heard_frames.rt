@@ -41,7 +41,7 @@ impl<'a, R, G: Drop> Drop for TakenCount<'a, R, G> {
 }
 
 impl<'a, R, G: Drop> TakenCount<'a, R, G> {
-    // Of the frames of this site none was taken.
+    // A sink for the frames of this site, of which none was taken over this link.
     fn new(rt: &'a R, links: &'a PeerLinks<G>, site: SiteId) -> TakenCount<'a, R, G> {
         TakenCount {
             rt,
@@ -59,10 +59,12 @@ impl<'a, R: Wait, G: Drop> ReceiptSink for TakenCount<'a, R, G> {
 
     ghost has_room = { λ sink. ⊤ };
 
+    // There is always room: receipts are dropped.
     fn prepare(&mut self) -> Result<(), Memory> {
         Ok(())
     }
 
+    // Counts a frame that was taken; the first one of the link is noted as one of its site.
     fn put(&mut self, receipt: Receipt) {
         drop(receipt);
         self.links.taken.fetch_add(1, Ordering::SeqCst);
@@ -73,7 +75,7 @@ impl<'a, R: Wait, G: Drop> ReceiptSink for TakenCount<'a, R, G> {
     }
 }
 
-// The fault of a site that lacks room or memory for a frame, and may take a whole later.
+// This fault, if the site lacks room or memory for a frame, and may take a whole later. `None`: another fault, or none.
 fn lack_of(fault: Option<DeskFault>) -> Option<DeskFault> {
     match fault {
         Some(
@@ -84,8 +86,8 @@ fn lack_of(fault: Option<DeskFault>) -> Option<DeskFault> {
     }
 }
 
-// Lets the site take the frames of a link, until it ends or a frame is refused: returns that fault. A frame for which the site lacks room
-// or memory is dropped; the site is then behind, and goes on.
+// Lets the site take the frames of a link, until the link ends or a take is refused. Returns the fault of the refusal; `None`: the link
+// has ended. But a frame for which the site lacks room or memory is dropped; the site is then behind, and goes on.
 fn take_each<R: Wait, P: Port<R>, S: Source + Drop, A: Acknowledge<R> + Drop, K: ReceiptSink>(
     rt: &R,
     port: &mut P,
@@ -107,7 +109,9 @@ fn take_each<R: Wait, P: Port<R>, S: Source + Drop, A: Acknowledge<R> + Drop, K:
     unreachable!()
 }
 
-// Lets the site take the frames of a link, until it ends or a frame is refused.
+// Lets the site take the frames of a link, as `take_each` does, until it ends or a take is refused, which the peer is sent. A link ends
+// over which nothing comes for 4 seconds. Returns why it ended. `NotPrepared`: nothing was read, since the clock or the stream's time
+// limit failed.
 pub(crate) fn hear_frames<R: Wait + Clock, G: Drop, P: Port<R>>(
     rt: &R,
     alloc: Global,
@@ -150,7 +154,8 @@ pub(crate) fn hear_frames<R: Wait + Clock, G: Drop, P: Port<R>>(
     end_of(inlet, fault)
 }
 
-// Why a link has ended whose pump has ended by this fault of the port. The peer learns that a frame was refused.
+// Why a link has ended whose pump has ended by this fault of the port: `Refused`, which the peer is sent too. Without a fault: `Inlet`,
+// with the inlet's own.
 fn end_of(
     inlet: LinkInlet<StdSource<&TcpStream>, StreamAcknowledger<'_>>,
     fault: Option<DeskFault>,

@@ -35,7 +35,7 @@ struct Known {
     causes: Vec<Cause>,
 }
 
-// Sets what a list says of a site. Returns whether it said something else.
+// Sets what a list says of a site. Returns whether it said something else before.
 fn set(sites: &mut [bool], site: SiteId, value: bool) -> bool {
     match sites.get_mut(site.number() as usize) {
         Some(slot) => {
@@ -54,7 +54,7 @@ pub(crate) struct HeardLinks {
 }
 
 impl HeardLinks {
-    // Nothing is known. Error: `Memory`.
+    // Nothing is known; there is room for all causes. Error: `Memory`.
     pub fn new(alloc: Global) -> Result<HeardLinks, Memory> {
         let Ok(causes) = Vec::with_capacity(alloc, MOST_CAUSES) else {
             return Err(Memory);
@@ -98,8 +98,8 @@ impl HeardLinks {
         }
     }
 
-    // Notes why a connection from this address led to no link. Returns whether the last one from there had another cause, as far as that is
-    // known.
+    // Notes why a connection from this address led to no link. Returns true if its last one had another cause, or none is known: causes are
+    // kept of 64 addresses, and a further one takes the place of the one that was noted first.
     pub fn note_cause<R: Wait>(&self, rt: &R, address: IpAddr, fault: HearFault) -> bool {
         let mut known = self.known.lock(rt);
         for cause in known.causes.iter_mut() {

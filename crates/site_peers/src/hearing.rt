@@ -29,7 +29,7 @@ const PAUSE_MILLIS: u64 = 20;
 /// Why a link from a peer has ended.
 #[derive(Clone, Copy, Debug, PartialEq, Eq, Error)]
 pub enum HearFault {
-    /// The system gives no random bytes, no clock, or no time limit for the stream.
+    /// The system gives no random bytes or no clock, or doesn't prepare the stream.
     #[error("not prepared")]
     NotPrepared,
     /// There was no hello.
@@ -43,7 +43,8 @@ pub enum HearFault {
     Refused(DeskFault),
 }
 
-// Waits for the next connection. Where the system fails to accept, that is logged once, and tried again every 20 ms. `None`: the site ends.
+// Waits for the next connection. Where the system fails to accept, that is logged once a call, and tried again every 20 ms; an aborted
+// connection is passed over. `None`: the site ends, which is seen only after a try; a connection that came is dropped.
 fn accept<R: Wait + Clock, G: Drop>(
     rt: &R,
     links: &PeerLinks<G>,
@@ -72,7 +73,8 @@ fn accept<R: Wait + Clock, G: Drop>(
     unreachable!()
 }
 
-// Runs the hello over a stream that was accepted.
+// Runs the hello over a stream that was accepted, for which the peer has 3 seconds. Errors, in order: `NotPrepared`; `Hello`, those of
+// `meet_dialer`.
 fn meet<R: Wait + Clock + RandomSource, G: Drop>(
     rt: &R,
     links: &PeerLinks<G>,
@@ -110,7 +112,8 @@ fn is_itself(fault: HearFault) -> bool {
     )
 }
 
-// Why the site ends after a link that has ended by this fault, if it does.
+// Why the site ends after a link that has ended by this fault: the peer refuses it as `TakenNumber` or `OlderCopy`, or it refuses a frame
+// as `NotMine` or `Conflict`. `None`: it doesn't end.
 fn reason_of(fault: HearFault) -> Option<EndReason> {
     match fault {
         HearFault::Hello(fault) => end_reason(fault),
@@ -129,7 +132,8 @@ fn is_refusal(fault: HearFault) -> bool {
     }
 }
 
-// Logs why a connection has led to no link, unless the last one from its address had the same cause.
+// Notes why a connection has led to no link, unless the site has dialed itself. Logs that, unless the last one from its address had the
+// same cause.
 fn log_refused<R: Wait, G: Drop>(
     rt: &R,
     links: &PeerLinks<G>,
@@ -142,7 +146,8 @@ fn log_refused<R: Wait, G: Drop>(
     }
 }
 
-// Hears one link, from its hello to its end. Returns why it has ended.
+// Hears one link, from its hello to its end. That it is up is logged, and earlier causes of its address are forgotten. Returns why it has
+// ended, or why the hello led to no link. The former is logged unless the site ends, the latter by `log_refused`.
 fn hear_link<R: Wait + Clock + RandomSource, G: Drop, P: Port<R>>(
     rt: &R,
     alloc: Global,
@@ -173,7 +178,8 @@ fn hear_link<R: Wait + Clock + RandomSource, G: Drop, P: Port<R>>(
     fault
 }
 
-// Ends the site after a link that has ended by this fault, if it must end; and closes the link's stream.
+// Ends the site after a link that has ended by this fault, if it must end; then closes the link's stream, gently after a refusal by this
+// site, which takes 2 seconds at most.
 fn end_link<R: Net<Listener = TcpListener, Stream = TcpStream> + Wait + Clock, G: Ring<R> + Drop>(
     rt: &R,
     links: &PeerLinks<G>,
@@ -190,7 +196,7 @@ fn end_link<R: Net<Listener = TcpListener, Stream = TcpStream> + Wait + Clock, G
     drop(stream);
 }
 
-// Hears one connection, if a first byte comes over it in time.
+// Hears one connection, if a first byte comes over it within 0.5 seconds, to its end, and closes it. Without that byte nothing is logged.
 fn hear_connection<
     R: Net<Listener = TcpListener, Stream = TcpStream> + Wait + Clock + RandomSource,
     G: Ring<R> + Drop,
@@ -216,12 +222,13 @@ fn hear_connection<
     end_link(rt, links, log, stream, fault);
 }
 
-/// Accepts one connection after another at a listener, and lets the site take the frames that come over each, by this port, until the
-/// site ends. Where the port lacks room or memory for a frame, the frame is dropped, and the peer is asked for a whole each 5 seconds until
-/// the site has caught up. Any other frame that the port refuses ends its link; `NotMine` and `Conflict` end the site, as does a peer that
-/// refuses it as `TakenNumber` or `OlderCopy`. A connection is closed over which nothing comes for 0.5 seconds, or no whole hello for 3.
-/// Lines are logged when a link is up and when it is down, when the site falls behind a peer and when it has caught up, and when a connection
-/// leads to no link for another cause than the last one from its address.
+/// Accepts one connection after another at a listener, and lets the site take the frames that come over each, by this port, until the site
+/// ends. Where the port lacks room or memory for a frame, the frame is dropped, and the peer is asked for a whole each 5 seconds until the
+/// site has caught up. Any other frame that the port refuses ends its link; `NotMine` and `Conflict` end the site, as does a peer that
+/// refuses it as `TakenNumber` or `OlderCopy`. A connection is closed over which nothing comes for 0.5 seconds, or no whole hello for 3; a
+/// link ends over which nothing comes for 4, or whose item takes 60. Lines are logged when a link is up and when it is down, when the site
+/// falls behind a peer and when it has caught up, and when a connection leads to no link for another cause than the last one from its
+/// address. At the end it wakes another thread that accepts links.
 pub fn hear_peers<
     R: Net<Listener = TcpListener, Stream = TcpStream> + Wait + Clock + RandomSource,
     G: Ring<R> + Drop,

@@ -36,7 +36,7 @@ impl<'a, R> Drop for HelloSource<'a, R> {
 }
 
 impl<'a, R: Clock> HelloSource<'a, R> {
-    // What a peer sends whose hello begins at this time.
+    // What a peer sends whose hello begins at this time, in milliseconds, and must be there 3 seconds later.
     pub fn new(rt: &'a R, stream: &'a TcpStream, now: u64) -> HelloSource<'a, R>
         ensures { result.failed ≡ false }
     {
@@ -58,7 +58,8 @@ impl<'a, R: Clock> HelloSource<'a, R> {
         }
     }
 
-    // Reads once, and tries again where the read is interrupted.
+    // Reads once, and tries again where the read is interrupted. `Failed`: the time is over, the clock can't be read, the stream fails, or
+    // all 1,000 tries were interrupted.
     fn read_in_time(&self, piece: &mut [u8]) -> Result<usize, Failed>
         ensures { IfOk result (λ n. n ≤ length piece.new) }
     {
@@ -90,6 +91,7 @@ impl<'a, R: Clock> Source for HelloSource<'a, R> {
 
     ghost failed = { λ s. s.failed };
 
+    // Reads as `read_in_time` does. A failure stays noted; the stream has ended if a read into some room gives no byte.
     fn read(&mut self, piece: &mut [u8]) -> Result<usize, Failed> {
         match self.read_in_time(piece) {
             Ok(count) => {

@@ -30,6 +30,7 @@ impl<R> ItemQueue<R> for SendQueue {
     ghost ends = { λ old new. (new ≡ old) × (old.whole ≡ None)
         × ((old.box.whole_due ≡ true) ⊎ (old.box.frames ≡ [])) };
 
+    // It never waits. `None` also while a whole is due.
     fn next_item(&mut self, _rt: &R) -> Option<Item> {
         match self.take() {
             Some(frame) => Some(Item::Frame(frame)),

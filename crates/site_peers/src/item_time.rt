@@ -32,7 +32,8 @@ impl ItemTime {
         }
     }
 
-    /// Bytes were read at this time: an item is begun, if none was. Returns whether one was begun that is not whole after 60 seconds.
+    /// Notes that bytes were read at this time: if no item is under way, one begins. Returns true if the item under way began 60 seconds
+    /// ago or earlier.
     pub fn after_read(&mut self, now: u64) -> bool
         ensures last { self.new.last ≡ now }
         ensures first { self.old.begun ≡ None
@@ -50,7 +51,8 @@ impl ItemTime {
         }
     }
 
-    /// An item is whole, and this number of bytes is held after it: they begin the next item, which was begun by the last read.
+    /// Notes that an item is whole, and that this number of bytes is held after it. If there are any, the next item has begun at the time
+    /// of the last read; else none is under way.
     pub fn after_item(&mut self, held: usize)
         ensures last { self.new.last ≡ self.old.last }
         ensures none { held ≡ 0 → self.new.begun ≡ None }

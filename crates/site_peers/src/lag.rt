@@ -18,8 +18,8 @@ pub enum LagStep {
 }
 
 /// Whether a site is behind a peer, of which it has refused a frame because it had no room or no memory. Then it asks the peer for a whole,
-/// at most each 5 seconds. It has caught up where it has taken frames since it asked, and refused none within 5 seconds. Times are
-/// milliseconds since an arbitrary start.
+/// at most each 5 seconds. It has caught up 5 seconds after it asked or later, if it has taken a frame since then and refused none. Times
+/// are milliseconds since an arbitrary start.
 #[derive(Drop)]
 pub struct Lag {
     is_behind: bool,

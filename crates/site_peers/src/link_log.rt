@@ -11,7 +11,8 @@ use std::io;
 use std::net::SocketAddr;
 use std::sync::Wait;
 
-/// Where the events of a site's links are logged.
+/// Where the events of a site's links are logged. Each event is one line; without memory or
+/// room for it the log only counts it as dropped.
 #[derive(Clone, Copy)]
 pub struct LinkLog<'a> {
     events: &'a EventLog,

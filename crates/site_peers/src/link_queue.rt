@@ -14,8 +14,9 @@ const BEAT_MILLIS: u64 = 1_000;
 // How many links are counted at most, for the time between wholes.
 const MOST_LINKS: u64 = 64;
 
-// What a link has to send: a beat each second, and what waits for its peer. Each n/2 to 3n/2 seconds, where n links of the site are up, it
-// asks for a whole if frames of others were taken since it last did. At each beat it rings the bell while its peer wants a whole.
+// What a link has to send: a beat each second, and what waits for its peer. Each n/2 to 3n/2 seconds, where n, 2 to 64, is how many links
+// of the site are up, it asks for a whole if frames of others were taken since it last did. At each beat it rings the bell while its peer
+// wants a whole.
 pub(crate) struct LinkQueue<'a, G: Drop> {
     links: &'a PeerLinks<G>,
     log: LinkLog<'a>,
@@ -44,7 +45,8 @@ impl<'a, G: Drop> Drop for LinkQueue<'a, G> {
 }
 
 impl<'a, G: Drop> LinkQueue<'a, G> {
-    // The queue of a link that is up since this time, and for whose first whole this number of frames of others had been taken.
+    // The queue of a link that is up since the time `now`, in milliseconds. When its peer's queue was opened, `taken` frames of others had
+    // been taken. A beat is due at once, and a whole may be asked for after a second.
     pub fn new(
         links: &'a PeerLinks<G>,
         log: LinkLog<'a>,
@@ -64,7 +66,8 @@ impl<'a, G: Drop> LinkQueue<'a, G> {
     }
 }
 
-// Asks for a whole if it is time and there is something new.
+// Asks for a whole if it is time and frames of others were taken since it last did; then not again for n/2 to 3n/2 seconds. It doesn't
+// ring.
 fn ask_whole<R: Wait + RandomSource, G: Ring<R> + Drop>(
     rt: &R,
     queue: &mut LinkQueue<'_, G>,
@@ -81,7 +84,7 @@ fn ask_whole<R: Wait + RandomSource, G: Ring<R> + Drop>(
     queue.peer.queue.ask_whole(rt);
 }
 
-// Rings the bell if a whole is to be made for the peer. That memory is lacking is logged once, until it is lacking no more.
+// Rings the bell if a whole is to be made for the peer. That memory is lacking is logged once, and again only after it was not lacking.
 fn ring_for_whole<R: Wait, G: Ring<R> + Drop>(rt: &R, queue: &mut LinkQueue<'_, G>) {
     let lacks_memory = queue.peer.queue.lacks_memory(rt);
     if lacks_memory && !queue.is_logged {
@@ -93,7 +96,7 @@ fn ring_for_whole<R: Wait, G: Ring<R> + Drop>(rt: &R, queue: &mut LinkQueue<'_, 
     }
 }
 
-// What a site that ends still sends: what waits, if it was asked to end, else nothing.
+// The next item of a site that ends, without waiting: what has waited longest, if it was asked to end. `None` ends the link.
 fn last_item<R: Wait + Clock, G: Drop>(
     rt: &R,
     queue: &mut LinkQueue<'_, G>,
@@ -115,6 +118,8 @@ impl<'a, R: Wait + Clock + RandomSource, G: Ring<R> + Drop> ItemQueue<R> for Lin
 
     ghost ends = { λ old new. ⊤ };
 
+    // Waits for the next item: a beat if one is due, before which it asks for a whole and rings as the type says, else what has waited
+    // longest. `None`: the site ends and sends nothing more, or the clock can't be read. No contract says what is returned.
     fn next_item(&mut self, rt: &R) -> Option<Item> {
         for _ in rt.forever() {
             if let Some(reason) = self.links.ending.reason(rt) {

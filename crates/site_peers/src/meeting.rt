@@ -20,7 +20,8 @@ pub struct Meeting {
     pub keys: LinkKeys,
 }
 
-// Whether this site has written a refusal to the peer before a hello ended by this fault.
+// Whether this site refuses the peer of a hello that ended by this fault. It has sent that as far as it could, unless the peer's verdict,
+// its last message, had a wrong code.
 pub(crate) fn is_own_refusal(fault: HelloFault) -> bool {
     matches!(fault, HelloFault::Refuses(_) | HelloFault::WrongSecret)
 }
@@ -44,7 +45,8 @@ pub(crate) fn end_reason(fault: HelloFault) -> Option<EndReason>
 /// Runs the hello of the site that dials. At Ok the peer's card came with the code of the secret and was admitted by the roll, the peer has
 /// welcomed this site, and both have the same keys. `nonce` is 32 random bytes that no other hello has.
 ///
-/// Errors are those of `begin_hello`, and then those of `end_hello`.
+/// Errors, in order: those of `begin_hello`, then those of `end_hello`; these include `Refuses`, if the roll refuses the peer's card. A
+/// card that the roll has admitted stays on it after an error of `end_hello`.
 pub fn meet_acceptor<R: Wait, S: Source, W: Sink>(
     rt: &R,
     source: &mut S,
@@ -78,7 +80,8 @@ pub fn meet_acceptor<R: Wait, S: Source, W: Sink>(
 /// Runs the hello of the site that accepts. At Ok the peer's card came with a welcome and the code of the secret and was admitted by the
 /// roll, and both have the same keys. `nonce` is 32 random bytes that no other hello has.
 ///
-/// Errors are those of `accept_hello`, and then those of `give_verdict`.
+/// Errors, in order: those of `accept_hello`, then those of `give_verdict`; these include `Refuses`, if the roll refuses the peer's card. A
+/// card that the roll has admitted stays on it after an error of `give_verdict`.
 pub fn meet_dialer<R: Wait, S: Source, W: Sink>(
     rt: &R,
     source: &mut S,

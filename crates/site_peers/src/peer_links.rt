@@ -20,7 +20,7 @@ pub trait Ring<R> {
     /// Wakes it.
     fn ring(&self, rt: &R);
 
-    /// Lets it end.
+    /// Ends it, and what else ends with the site. It may be called more than once.
     fn end(&self, rt: &R);
 }
 
@@ -53,7 +53,7 @@ pub struct PeerLinks<G: Drop> {
     pub(crate) heard: HeardLinks,
 }
 
-// The peers of these addresses, of each of which at most `limit` bytes of frames wait.
+// The peers of these addresses, in their order. At most `limit` bytes of frames wait for each. Error: `Memory`.
 fn peers_of(alloc: Global, addresses: Vec<String>, limit: usize) -> Result<Vec<Peer>, Memory>
     ensures { IfOk result (λ peers. vec_len peers ≡ vec_len addresses) }
 {
@@ -71,7 +71,7 @@ fn peers_of(alloc: Global, addresses: Vec<String>, limit: usize) -> Result<Vec<P
     Ok(peers)
 }
 
-// Those peers, and room for what is known of links.
+// The peers of these addresses, as `peers_of` makes them, and room for what is known of links. Error: `Memory`.
 fn parts_of(
     alloc: Global,
     addresses: Vec<String>,
@@ -96,8 +96,9 @@ fn parts_of(
 }
 
 impl<G: Drop> PeerLinks<G> {
-    /// What the threads of a site share that accepts links at the address `own` and dials these addresses, each a host and a port. At most
-    /// `limit` bytes of frames wait for each peer, beside a whole. `key` is that of the secret. Error: `Memory`.
+    /// What is shared by the threads of a site that accepts links at `own` and dials these addresses, each a host and a port. At most
+    /// `limit` bytes of frames wait for each peer, beside a whole. `key` is that of the secret. Error: `Memory`; all is dropped then, the
+    /// bell too.
     pub fn new(
         alloc: Global,
         site: SiteId,
@@ -145,8 +146,8 @@ impl<G: Drop> PeerLinks<G> {
         self.heard.taken_count(rt)
     }
 
-    /// Whether it dials more peers than those of which a frame was taken since the launch. A peer that has turned out to be the site itself
-    /// doesn't count.
+    /// Whether it dials more peers than there are sites of which a frame was taken since the launch. A peer that has turned out to be the
+    /// site itself doesn't count.
     pub fn awaits_peers<R: Wait>(&self, rt: &R) -> bool {
         let mut others: usize = 0;
         for peer in &self.peers {
@@ -181,14 +182,14 @@ impl<G: Drop> PeerLinks<G> {
     }
 }
 
-// Wakes a thread that accepts links, by a connection to the site's own port.
+// Wakes a thread that accepts links, by a connection to the site's own port, which may take 0.2 seconds. A failure is ignored.
 pub(crate) fn wake<R: Net<Listener = TcpListener, Stream = TcpStream>>(rt: &R, own: &SocketAddr) {
     let wait = Duration::from_millis(WAKE_MILLIS);
     drop(TcpStream::connect_timeout(rt, own, wait));
 }
 
-/// Ends a site for this reason, if it doesn't end yet, and wakes the threads of its links: each ends. The first reason is logged, in one
-/// line.
+/// Ends a site for this reason, if it doesn't end yet; the first reason is logged, in one line. Each call ends the bell, and wakes the
+/// threads that wait to dial and one that accepts links, which wakes the next. So all threads of its links end.
 pub fn end_links<R: Net<Listener = TcpListener, Stream = TcpStream> + Wait, G: Ring<R> + Drop>(
     rt: &R,
     links: &PeerLinks<G>,

@@ -41,9 +41,9 @@ impl ReadCount {
         }
     }
 
-    /// Counts bytes that were read at this time, at most 2^64 - 1 in all. Returns how many were read in all if that is to be acknowledged
-    /// now: 65,536 bytes or more are not yet, or some aren't and the last acknowledgement was 0.9 seconds ago or more. It counts them as
-    /// acknowledged.
+    /// Counts bytes that were read at this time; the sum is at most 2^64 - 1. An acknowledgement is due if 65,536 bytes or more aren't
+    /// acknowledged, or if any aren't and the last acknowledgement was 0.9 seconds ago or earlier. If one is due, counts all bytes as
+    /// acknowledged, and returns how many were read in all. `None`: none is due.
     pub fn after_read(&mut self, count: usize, now: u64) -> Option<u64>
         ensures read { self.new.read ≡ min (self.old.read + count) (2 ^ 64 - 1) }
         ensures due { IsSome result

@@ -5,10 +5,12 @@ ghost use Rattle.site_peers.specs.Received.{HasGivenFrame, HasReceived, HasStopp
 
 use crate::{Acknowledge, InletFault};
 use ami_text::Source;
+use dots::SharedBytes;
 use link_stream::{Item, ItemReceiver};
 use std::sync::Wait;
 
-// Takes an item that is held; else reads once, and has the read acknowledged. `None` after a read.
+// Takes an item that is held; else reads once, and has the read acknowledged. `None` after a read. Errors: `Receive`, the receiver's; after
+// a read `Acknowledge`.
 fn advance<R, S: Source, A: Acknowledge<R>>(
     rt: &R,
     receiver: &mut ItemReceiver,
@@ -40,18 +42,19 @@ fn advance<R, S: Source, A: Acknowledge<R>>(
     }
 }
 
-// Receives until a frame has come, and passes over beats. Errors are those of the receiver, and of what acknowledges.
+// Receives until a frame has come, and returns it; beats are passed over. The acknowledger notes each read and each item. The first error
+// of `advance` ends it.
 pub(crate) fn next_frame<R: Wait, S: Source, A: Acknowledge<R>>(
     rt: &R,
     receiver: &mut ItemReceiver,
     source: &mut S,
     acknowledger: &mut A,
-) -> Result<Vec<u8>, InletFault>
+) -> Result<SharedBytes, InletFault>
     requires source { S.failed source.old ≡ false }
     requires receiver { receiver.old.fault ≡ None }
-    ensures frame { IfOk result (λ frame. IsFrame frame.items) }
+    ensures frame { IfOk result (λ frame. IsFrame frame) }
     ensures given { IfOk result (λ frame. HasGivenFrame (S.left source.old) (S.left source.new)
-        receiver.old.stream frame.items receiver.new.stream) }
+        receiver.old.stream frame receiver.new.stream) }
     ensures works { OnOk result ((S.failed source.new ≡ false) × (receiver.new.fault ≡ None)) }
     ensures stopped { IfErr result (λ fault. HasStopped (S.left source.old) receiver.old.stream
         fault (S.ended source.new) (S.failed source.new)) }

@@ -5,31 +5,20 @@ ghost use Rattle.site_peers.specs.Queues.{IsBegun, IsNews, IsTakenFrom, WantsWho
 ghost use Rattle.site_peers.specs.Queues.{content_digest, new_queue, opened, out_of_memory, waiting};
 ghost use Rattle.site_peers.specs.Queues.{with_frame, with_whole, without_frames};
 
+use crate::WholeFrame;
+use dots::SharedBytes;
 use peer_box::{Due, PeerBox};
-use sha2::{Digest, Sha256};
 use std::alloc::{AllocError, Global};
 use std::marker::Model;
-
-// How many bytes of a frame stand before what it says: its length, letters, version, maker and number.
-const HEADING: usize = 16;
-
-// The SHA-256 digest of what a frame says, whoever made it and under whichever number.
-fn digest_of(frame: &[u8]) -> [u8; 32]
-    ensures { result ≡ content_digest frame.now }
-{
-    let start = HEADING.min(frame.len());
-    Sha256::digest(&frame[start..])
-}
 
 /// What waits for one peer, in the order in which its link sends it: a whole that was made for it, and the frames after that whole. A
 /// whole is due when the peer connects, and when frames are given up because they have no room. Frames that are put while a whole is due
 /// are ignored, since the whole is made later. A whole answers an ask, or the peer's connection, only if it was begun after it.
 #[derive(Drop)]
 pub struct SendQueue {
-    alloc: Global,
     frames: PeerBox,
     // The whole that waits, before all frames.
-    whole: Option<Vec<u8>>,
+    whole: Option<SharedBytes>,
     // Whether a whole is asked for that waits only if it says something else than the last one.
     is_asked: bool,
     // Whether a whole is being made for the peer.
@@ -42,14 +31,13 @@ pub struct SendQueue {
 
 impl Model for SendQueue {
     ghost use Rattle.std.specs.Prelude.{◌≡◌, true};
-    ghost use Rattle.std.specs.Option.{option_map};
     ghost use Rattle.site_peers.specs.Queues.{QueueState};
 
     ghost Value = { QueueState };
 
     ghost view = { λ q. record {
       box = q.frames;
-      whole = option_map (λ whole. whole.items) q.whole;
+      whole = q.whole;
       asked = q.is_asked;
       making = q.is_being_made;
       last = q.last;
@@ -65,7 +53,6 @@ impl SendQueue {
         ensures { result ≡ new_queue limit }
     {
         SendQueue {
-            alloc,
             frames: PeerBox::new(alloc, limit),
             whole: None,
             is_asked: false,
@@ -142,11 +129,12 @@ impl SendQueue {
         self.lacks_memory
     }
 
-    /// Puts a frame after what waits. Where the peer isn't connected or a whole is due the queue stays as it is. Where the frame has no
-    /// room all frames are given up, and a whole is due.
+    /// Puts a frame after what waits: the queue becomes one more owner of its bytes. Where the peer isn't connected or a whole is due the
+    /// queue stays as it is. Where the frame has no room all frames are given up, and a whole is due.
     ///
-    /// `AllocError`: there was room, but an allocation was refused. All frames are given up, and a whole is due; memory is lacking.
-    pub fn put(&mut self, frame: &[u8]) -> Result<(), AllocError>
+    /// `AllocError`: there was room, but an allocation was refused, or the bytes have 2^63 - 1 owners. All frames are given up, and a whole
+    /// is due; memory is lacking.
+    pub fn put(&mut self, frame: &SharedBytes) -> Result<(), AllocError>
         ensures ignored { (self.old.box.is_open ≡ false) ⊎ (self.old.box.whole_due ≡ true)
             → (result ≡ Ok tt) × (self.new ≡ self.old) }
         ensures full { self.old.box.is_open ≡ true → self.old.box.whole_due ≡ false
@@ -172,11 +160,11 @@ impl SendQueue {
     }
 
     /// Gives the queue a whole that was made after every frame that was put. If it was made for the peer, and a whole is due or this one
-    /// isn't the same as the last one but for its heading, it waits in the place of all that waited, and is due no more. What was asked
-    /// since it was begun stays asked.
+    /// isn't the same as the last one but for its heading, it waits in the place of all that waited, and is due no more. Otherwise nothing
+    /// that waits changes. What was asked since it was begun stays asked. The queue becomes one more owner of its bytes.
     ///
-    /// `AllocError`: an allocation was refused. The queue stays as it is, but that memory is lacking: the whole stays wanted.
-    pub fn give_whole(&mut self, whole: &[u8]) -> Result<(), AllocError>
+    /// `AllocError`: the bytes have 2^63 - 1 owners. The queue stays as it is, but notes that memory is lacking: the whole stays wanted.
+    pub fn give_whole(&mut self, whole: &WholeFrame<'_>) -> Result<(), AllocError>
         ensures earlier { self.old.making ≡ false → (result ≡ Ok tt) × (self.new ≡ self.old) }
         ensures same { self.old.making ≡ true
             → (IsNews self.old (content_digest whole.now) → ⊥)
@@ -188,12 +176,12 @@ impl SendQueue {
         if !self.is_being_made {
             return Ok(());
         }
-        let digest = digest_of(whole);
+        let digest = whole.digest();
         if !self.is_news(&digest) {
             self.is_being_made = false;
             return Ok(());
         }
-        let Ok(copy) = Vec::from_slice(self.alloc, whole) else {
+        let Ok(copy) = whole.bytes().copy() else {
             self.lacks_memory = true;
             return Err(AllocError);
         };
@@ -206,9 +194,10 @@ impl SendQueue {
         Ok(())
     }
 
-    /// Takes what has waited longest. `None` exactly if nothing waits, or a whole is due that isn't made yet.
-    pub fn take(&mut self) -> Option<Vec<u8>>
-        ensures item { IfSome result (λ item. IsTakenFrom self.old item.items self.new) }
+    /// Takes the item that has waited longest: the whole, if one waits, else the first frame. `None` exactly if no whole waits, and no
+    /// frame does or a whole is due.
+    pub fn take(&mut self) -> Option<SharedBytes>
+        ensures item { IfSome result (λ item. IsTakenFrom self.old item self.new) }
         ensures none { IfNone result ((self.old.whole ≡ None)
             × ((self.old.box.whole_due ≡ true) ⊎ (self.old.box.frames ≡ []))) }
         ensures same { IfNone result (self.new ≡ self.old) }
@@ -225,7 +214,7 @@ impl SendQueue {
         }
     }
 
-    /// True if the link has nothing to take.
+    /// True if the link has nothing to take: no whole waits, and no frame does or a whole is due.
     pub fn is_idle(&self) -> bool
         ensures { IsTrue result ↔ ((self.now.whole ≡ None)
             × ((self.now.box.whole_due ≡ true) ⊎ (self.now.box.frames ≡ []))) }

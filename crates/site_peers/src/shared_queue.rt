@@ -1,11 +1,11 @@
-use crate::{Outbox, SendQueue};
-use site_journal::Receipt;
+use crate::{MadeFrame, Outbox, SendQueue};
+use dots::SharedBytes;
 use std::alloc::Global;
 use std::sync::{Condvar, CondvarTimeouts, Mutex, Wait};
 use std::time::{Clock, Duration};
 
-/// The queue of a peer, which the thread that makes frames and the thread of the peer's link share. Who hands it a frame waits for the
-/// lock alone.
+/// The queue of a peer, which the thread that makes frames and the thread of the peer's link share. Who hands it a frame waits only for the
+/// lock. The lock hides the queue: no contract here says what a call does to it, those of `SendQueue` do.
 #[derive(Drop)]
 pub struct SharedQueue {
     queue: Mutex<SendQueue>,
@@ -31,17 +31,18 @@ impl SharedQueue {
         self.queue.lock(rt).close();
     }
 
-    /// Asks for a whole, which is to wait if it says something else than the last one.
+    /// Asks for a whole, which is to wait if it says something else than the last one that was given.
     pub fn ask_whole<R: Wait>(&self, rt: &R) {
         self.queue.lock(rt).ask_whole();
     }
 
-    /// Makes a whole due, which waits also if it says the same as the last one.
+    /// Makes a whole due, which waits also if it says the same as the last one. All frames are given up. Where the peer isn't connected the
+    /// queue stays as it is.
     pub fn require_whole<R: Wait>(&self, rt: &R) {
         self.queue.lock(rt).require_whole();
     }
 
-    /// True if a whole is to be made for the peer.
+    /// True if a whole is to be made for the peer: it is connected, and a whole is due, asked for, or being made.
     pub fn wants_whole<R: Wait>(&self, rt: &R) -> bool {
         self.queue.lock(rt).wants_whole()
     }
@@ -51,8 +52,9 @@ impl SharedQueue {
         self.queue.lock(rt).lacks_memory()
     }
 
-    /// Takes what has waited longest; waits for something for at most this time.
-    pub fn take_within<R: Wait + Clock>(&self, rt: &R, time: Duration) -> Option<Vec<u8>> {
+    /// Takes the item that has waited longest. If there is nothing to take it waits for at most this time, until there is. `None`: there
+    /// was nothing to take.
+    pub fn take_within<R: Wait + Clock>(&self, rt: &R, time: Duration) -> Option<SharedBytes> {
         let queue = self.queue.lock(rt);
         let (mut queue, _) = self
             .changed
@@ -84,9 +86,10 @@ impl<'a, R: Wait> Outbox<R> for SharedOutbox<'a> {
 
     ghost handed = { λ old receipt wants new. ⊤ };
 
-    fn hand(&mut self, rt: &R, receipt: &Receipt) -> bool {
+    // Hands it to the queue under its lock, and wakes the thread of the link.
+    fn hand(&mut self, rt: &R, made: &MadeFrame<'_>) -> bool {
         let mut queue = self.queue.queue.lock(rt);
-        let wants = Outbox::<R>::hand(&mut *queue, rt, receipt);
+        let wants = Outbox::<R>::hand(&mut *queue, rt, made);
         drop(queue);
         self.queue.changed.notify_all();
         wants

@@ -20,7 +20,8 @@ impl SharedRoll {
         }
     }
 
-    /// Judges a peer's card by the roll, as `Roll::admit` does. `own` is this site's card.
+    /// Judges a peer's card by the roll, as `Roll::admit` does. `own` is this site's card. Errors are those of `Roll::admit`, in its order;
+    /// `WrongSecret` is none of them.
     pub fn admit<R: Wait>(&self, rt: &R, own: &Card, card: &Card) -> Result<SiteId, Refusal>
         ensures site { IfOk result (λ site. site ≡ card.now.number) }
         ensures peer { IsOk result → IsPeer own.now card.now }

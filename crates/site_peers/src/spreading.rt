@@ -5,7 +5,7 @@ ghost use Rattle.std.specs.Result.{result_err};
 ghost use Rattle.site_pumps.specs.Carried.{EachLink};
 ghost use Rattle.site_peers.specs.Outboxes.{Handing, HasSpread, IsSettled, NoneWants, cut_count};
 
-use crate::Outbox;
+use crate::{MadeFrame, Outbox};
 use site_journal::{Bell, DeskFault, Port, Receipt};
 use std::sync::Wait;
 
@@ -15,16 +15,18 @@ fn hand_to_each<R, O: Outbox<R>>(rt: &R, outboxes: &mut [O], receipt: &Receipt) 
         outboxes.old outboxes.new }
     ensures none { result ≡ false → NoneWants O.handed receipt.now outboxes.old outboxes.new }
 {
+    let made = MadeFrame::of(receipt);
     let mut is_whole_wanted = false;
     for i in 0..outboxes.len() {
-        if outboxes[i].hand(rt, receipt) {
+        if outboxes[i].hand(rt, &made) {
             is_whole_wanted = true;
         }
     }
     is_whole_wanted
 }
 
-// Cuts, and hands the receipt to each outbox. Returns whether one of them then wants a whole.
+// Cuts, and hands the receipt to each outbox. Returns whether one of them then wants a whole. Errors are the port's: then no outbox is
+// handed anything.
 fn cut_to_each<R, P: Port<R>, O: Outbox<R>>(
     rt: &R,
     port: &mut P,
@@ -49,7 +51,7 @@ fn cut_to_each<R, P: Port<R>, O: Outbox<R>>(
     Ok(is_whole_wanted)
 }
 
-// Makes a whole, and hands the receipt to each outbox.
+// Makes a whole, and hands the receipt to each outbox. Errors are the port's: then no outbox is handed anything.
 fn whole_to_each<R, P: Port<R>, O: Outbox<R>>(
     rt: &R,
     port: &mut P,
@@ -73,8 +75,8 @@ fn whole_to_each<R, P: Port<R>, O: Outbox<R>>(
 }
 
 /// Cuts, and hands the receipt to each outbox. If an outbox says that it wants a whole, makes one, and hands its receipt to each outbox.
-/// What an outbox asks for after it was handed the cut waits for the next call. Errors are the port's: none is handed a receipt of a call
-/// that failed.
+/// What an outbox asks for after it was handed the cut waits for the next call. Errors are the port's: of a call that failed no outbox is
+/// handed anything.
 pub fn spread_once<R, P: Port<R>, O: Outbox<R>>(
     rt: &R,
     port: &mut P,

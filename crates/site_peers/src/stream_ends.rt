@@ -18,18 +18,18 @@ const WRITE_MILLIS: u64 = 100;
 // How often a write is tried that waits.
 pub(crate) const WRITE_WAITS: u32 = 40;
 
-// How long the first byte of a connection is waited for, so that a silent one doesn't keep a thread.
+// How long the first byte of a connection is waited for, in milliseconds, so that a silent one doesn't keep a thread.
 const FIRST_BYTE_MILLIS: u64 = 500;
 
-// How long a peer may be silent.
+// How long a peer may be silent, in milliseconds.
 pub(crate) const SILENT_MILLIS: u64 = 4_000;
 
-// How often acknowledgements are looked for where none is needed, and how long that waits.
+// How often acknowledgements are looked for where none is needed, and how long that waits, in milliseconds.
 const LOOK_MILLIS: u64 = 900;
 
 const LOOK_WAIT_MILLIS: u64 = 1;
 
-// How long a read waits for an acknowledgement that is needed.
+// How long a read waits for an acknowledgement that is needed, in milliseconds.
 const NEEDED_WAIT_MILLIS: u64 = 250;
 
 // How long a site that was asked to end sends what waits, in milliseconds.
@@ -38,13 +38,15 @@ const END_MILLIS: u64 = 2_000;
 // How many bytes of acknowledgements are read at a time.
 const PIECE: usize = 1_024;
 
-// Prepares a stream for its hello and what follows.
+// Prepares a stream for its hello and what follows: what is written leaves at once, and each try of a write waits for at most 0.1 seconds.
+// Errors are the system's.
 pub(crate) fn prepare(stream: &TcpStream) -> io::Result<()> {
     stream.set_nodelay(true)?;
     stream.set_write_timeout(Some(Duration::from_millis(WRITE_MILLIS)))
 }
 
-// Whether a first byte comes in time.
+// Whether a first byte comes within 0.5 seconds, which stays the stream's limit of a read; the byte stays unread. False also if the peer
+// closes, or a call fails.
 pub(crate) fn has_first_byte(stream: &TcpStream) -> bool {
     let wait = Duration::from_millis(FIRST_BYTE_MILLIS);
     if stream.set_read_timeout(Some(wait)).is_err() {
@@ -91,7 +93,7 @@ impl<'a, R, G: Drop> Drop for StreamAcknowledgements<'a, R, G> {
 }
 
 impl<'a, R: Wait + Clock, G: Ring<R> + Drop> StreamAcknowledgements<'a, R, G> {
-    // Those that come from this time on.
+    // The acknowledgements that come over this stream from the time `now` on, in milliseconds, with tags under this key.
     pub fn new(
         rt: &'a R,
         alloc: Global,
@@ -114,7 +116,8 @@ impl<'a, R: Wait + Clock, G: Ring<R> + Drop> StreamAcknowledgements<'a, R, G> {
         }
     }
 
-    // Whether the site ends, and what waits is not to be sent any more: a site that was asked to end sends for up to 2 seconds.
+    // Whether the site ends, and what waits is not to be sent any more: a site that was asked to end sends for up to 2 seconds after the
+    // first call that finds that.
     fn is_over(&mut self, now: u64) -> bool {
         match self.links.ending.reason(self.rt) {
             None => false,
@@ -133,7 +136,8 @@ impl<'a, R: Wait + Clock, G: Ring<R> + Drop> StreamAcknowledgements<'a, R, G> {
         self.links.bell.ring(self.rt);
     }
 
-    // Takes a number, which is not less than the one before it.
+    // Notes a number of bytes that the peer has acknowledged, and returns it. Error: `WentBack` if it is less than the one before it, which
+    // then stays.
     fn take_number(&mut self, count: u64) -> Result<Option<u64>, OutletFault> {
         if count < self.taken {
             return Err(OutletFault::Window(WindowFault::WentBack));
@@ -142,7 +146,8 @@ impl<'a, R: Wait + Clock, G: Ring<R> + Drop> StreamAcknowledgements<'a, R, G> {
         Ok(Some(count))
     }
 
-    // Reads a piece of the acceptor's bytes. Returns the last number in it, which is the greatest.
+    // Takes a piece of the acceptor's bytes. Returns the last number in it, which is the greatest; `None`: there is none. Each `Behind` in
+    // it makes a whole due, and rings. The first error ends it: `Receive`; `Window`, a number went back; `FrameRefused`.
     fn take(&mut self, piece: &[u8]) -> Result<Option<u64>, OutletFault> {
         if let Err(fault) = self.receiver.feed(piece) {
             return Err(OutletFault::Receive(fault));
@@ -160,7 +165,8 @@ impl<'a, R: Wait + Clock, G: Ring<R> + Drop> StreamAcknowledgements<'a, R, G> {
         Ok(last)
     }
 
-    // Reads once, for at most this time.
+    // Reads once, for at most `wait` milliseconds, and takes what came. Returns the last number in it; `None`: nothing came, or no number.
+    // Errors: `Closed` if the stream fails or the peer has closed it; those of `take`.
     fn read_once(&mut self, wait: u64) -> Result<Option<u64>, OutletFault> {
         let wait = Duration::from_millis(wait);
         if self.stream.set_read_timeout(Some(wait)).is_err() {
@@ -181,6 +187,8 @@ impl<'a, R: Wait + Clock, G: Ring<R> + Drop> StreamAcknowledgements<'a, R, G> {
 
 impl<'a, R: Wait + Clock, G: Ring<R> + Drop> AcknowledgementReader
     for StreamAcknowledgements<'a, R, G> {
+    // Waits for at most 0.25 seconds if `waits` is true; else it reads at most each 0.9 seconds, and waits for at most 1 ms. Errors, in
+    // order: `NoClock`; `Ending`; those of `read_once`; `Silent` if no number has come for 4 seconds.
     fn read_last(&mut self, waits: bool) -> Result<Option<u64>, OutletFault> {
         let Some(now) = millis(self.rt) else {
             return Err(OutletFault::NoClock);

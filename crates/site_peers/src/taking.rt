@@ -16,8 +16,8 @@ use std::sync::Wait;
 /// Lets the port take each frame that comes over a link, and hands the receipts to the sink, in order. Returns when the link ends or a
 /// fault stops it: the port's own, or `Memory` where the sink has no room for a receipt. It waits where the link or the port does.
 ///
-/// The frames that were taken, and then the one that was refused if one was, are in order the items but beats that were received: the
-/// bytes that the inlet held and those that it read since are these items, each with the tag of its counter, and what it held after the
+/// The frames that were taken, and then the one that was refused if one was, are in order the items that were received, without the beats:
+/// the bytes that the inlet held and those that it read since are these items, each with the tag of its counter, and what it held after the
 /// last of them. It returns without a fault only where the inlet gives nothing more, for the inlet's own fault.
 pub fn take_frames<R: Wait, P: Port<R>, S: Source + Drop, A: Acknowledge<R> + Drop, K: ReceiptSink>(
     rt: &R,
@@ -30,7 +30,7 @@ pub fn take_frames<R: Wait, P: Port<R>, S: Source + Drop, A: Acknowledge<R> + Dr
         × AreTakes frames receipts
         × PortWork P.makes P.refuses port.old receipts result.fault port.new
         × HasGivenFrames (S.left (inlet_source inlet.old)) left (inlet_stream inlet.old)
-        (frames ++ option_map_or (λ bytes. bytes.items ∷ []) result.refused []) stream
+        (frames ++ option_map_or (λ bytes. bytes ∷ []) result.refused []) stream
         × (inlet_fault inlet.old ≡ None → HasEndedAt result.fault
         left (S.left (inlet_source inlet.new)) stream (inlet_stream inlet.new)
         (inlet_fault inlet.new) (S.ended (inlet_source inlet.new))

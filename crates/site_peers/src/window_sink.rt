@@ -9,7 +9,7 @@ use std::io::{ErrorKind, Write};
 use std::sync::Wait;
 use thiserror::Error;
 
-// How often a write waits for as long as its writer lets it.
+// How often a write may wait, each time for as long as its writer lets it.
 const WRITE_WAITS: u32 = 40;
 
 // How often a write is tried that is interrupted.
@@ -43,11 +43,13 @@ pub enum OutletFault {
 
 // What reads the acknowledgements of a link.
 pub(crate) trait AcknowledgementReader {
-    // Reads what has come, and waits for something if `waits` is true, for a short time. Returns the last number that came, if one did.
+    // Reads what has come; if nothing has and `waits` is true, it waits for something for a short time. Returns the last acknowledgement
+    // among what it read, a number of bytes in all. `None`: there was none. An error ends the link.
     fn read_last(&mut self, waits: bool) -> Result<Option<u64>, OutletFault>;
 }
 
-// Writes once, and tries again where the write is interrupted, or has waited and may wait again.
+// Writes once, and tries again where the write is interrupted, or has waited and may wait again. Returns how many bytes were written.
+// Errors: `Silent` if 40 tries have waited in vain; `Closed` if the writer failed otherwise, or all 1,000 tries were interrupted.
 fn write_once<W: Write>(writer: &mut W, bytes: &[u8]) -> Result<usize, OutletFault>
     ensures count { IfOk result (λ n. n ≤ length bytes.now) }
     ensures writer { WriteAppends (W.contents writer.old) (W.contents writer.new) result bytes.now }
@@ -114,12 +116,13 @@ impl<'a, R: Wait, W: Write, A: AcknowledgementReader> WindowSink<'a, R, W, A> {
         }
     }
 
-    // Why it has failed, if it has.
+    // The fault of the last write that returned an error. `None`: none did, though one may have taken no byte.
     pub fn fault(&self) -> Option<OutletFault> {
         self.fault
     }
 
-    // Takes the acknowledgements that have come.
+    // Reads the acknowledgements that have come, and counts the bytes of the last one. `waits`: it waits for one for a short time. Errors,
+    // in order: the reader's; `Window`, which counts nothing.
     fn acknowledge(&mut self, waits: bool) -> Result<(), OutletFault>
         ensures writer { self.new.writer ≡ self.old.writer }
         ensures failed { self.new.failed ≡ self.old.failed }
@@ -134,7 +137,8 @@ impl<'a, R: Wait, W: Write, A: AcknowledgementReader> WindowSink<'a, R, W, A> {
         }
     }
 
-    // Writes as much as there is room for, once there is some.
+    // Waits until there is room, and writes at most as many bytes as there is room for. Returns how many were written. Errors: of each
+    // round, those of `acknowledge`; then those of `write_once`.
     fn write_within(&mut self, bytes: &[u8]) -> Result<usize, OutletFault>
         ensures count { IfOk result (λ n. n ≤ length bytes.now) }
         ensures writer { WriteAppends (W.contents self.old.writer) (W.contents self.new.writer)
@@ -165,6 +169,7 @@ impl<'a, R: Wait, W: Write, A: AcknowledgementReader> Sink for WindowSink<'a, R,
 
     ghost failed = { λ s. s.failed };
 
+    // Does as `write_within`, and keeps its fault. A write of some bytes that takes none fails the sink, without a fault.
     fn write(&mut self, bytes: &[u8]) -> Result<usize, Failed> {
         match self.write_within(bytes) {
             Ok(count) => {

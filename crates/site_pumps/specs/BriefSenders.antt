@@ -8,7 +8,8 @@ pub record BriefSending : Type 0 where
   pub lacks : Bool
   pub taken : Bool
 
--- the same, of its parts
+-- a brief sender's state: the link's sender, whether its receiver lacks items, and whether the link has taken
+-- the last
 abbrev pub brief_sending : Sending → Bool → Bool → BriefSending
 brief_sending link lacks taken = record { link = link; lacks = lacks; taken = taken }
 

@@ -14,7 +14,7 @@ pub record HasCalled {P : Type 0} (Makes : P → Receipt → P → Type 0) (Refu
   pub calls : List (Result Receipt DeskFault)
   pub run : CallRun Makes Refuses p calls q
 
--- this holds of a port's states before and after each call
+-- `Keeps` holds of a port's states before and after each call
 pub record EachCallKeeps {P : Type 0} (Makes : P → Receipt → P → Type 0) (Refuses : P → DeskFault → P → Type 0) (Keeps : P → P → Type 0) : Type 0 where
   pub receipt : (p q : P) (receipt : Receipt) → Makes p receipt q → Keeps p q
   pub fault : (p q : P) (fault : DeskFault) → Refuses p fault q → Keeps p q

@@ -2,11 +2,11 @@
 use Rattle.std.specs.Prelude.{ℕ, ◌≡◌, ◌≤◌, ◌<◌, true, false, List, [], ◌++◌, length, slice_index_or}
 use Rattle.site_links.specs.Links.{Sending}
 
--- a front of these items was sent, and nothing where the link was down before
+-- a prefix of these items was sent, and nothing where the link was down before
 abbrev pub BeginsToCarry : List (List ℕ) → Sending → Sending → Type 0
 BeginsToCarry items old new = (new.link ≡ old.link) × (old.down ≡ true → new ≡ old) × (front : List (List ℕ)) × (rest : List (List ℕ)) × (items ≡ front ++ rest) × (new.sent ≡ old.sent ++ front)
 
--- all of these items were sent, or a front of them where the link is down
+-- all of these items were sent, or a prefix of them where the link is down
 abbrev pub Carries : List (List ℕ) → Sending → Sending → Type 0
 Carries items old new = (new.link ≡ old.link) × (old.down ≡ true → new ≡ old) × (front : List (List ℕ)) × (rest : List (List ℕ)) × (items ≡ front ++ rest) × (new.sent ≡ old.sent ++ front) × (new.down ≡ false → rest ≡ [])
 

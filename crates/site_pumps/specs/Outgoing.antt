@@ -18,7 +18,7 @@ pub record IsUnderWay {O : Type 0} (Given : O → List ℕ → O → Type 0) (pl
   pub carried : EachLink (OutletRun Given (sent_from plan 0 [] (cut_frames receipts))) start outlets
   pub no_whole : whole_frames receipts ≡ []
 
--- each outlet was given a front of the plan of these receipts' frames
+-- each outlet was given a prefix of what the plan makes of these receipts' frames
 abbrev pub IsFrontOf : {O : Type 0} → (O → List ℕ → O → Type 0) → List Deed → List Receipt → List O → List O → Type 0
 IsFrontOf Given plan receipts start outlets = EachLink (OutletBegins Given (planned plan (cut_frames receipts) (whole_frames receipts))) start outlets
 

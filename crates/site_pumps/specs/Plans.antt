@@ -3,7 +3,7 @@ use Rattle.std.specs.Prelude.{ℕ, ◌+◌, ◌%◌, List, [], ◌∷◌, ◌++�
 use Rattle.site_pumps.specs.declared.deed.Deed.{Deed}
 use Rattle.site_pumps.specs.declared.deed.Deed.TheVariants.{Deliver, Lose, Twice, Hold}
 
--- the deed for the frame of this number: the deeds are used in turn, again from their front; where there are none, each frame is delivered
+-- the deed for the frame of this number: the deeds are used in turn, after the last the first; where there are none, each frame is delivered
 abbrev pub deed_at : List Deed → ℕ → Deed
 deed_at [] number = Deliver
 deed_at (deed ∷ deeds) number = slice_index_or (deed ∷ deeds) (number % length (deed ∷ deeds)) Deliver
@@ -15,7 +15,7 @@ sent_for Lose held frame = held
 sent_for Twice held frame = frame ∷ frame ∷ held
 sent_for Hold held frame = []
 
--- which frames are held after it
+-- the frames that are held after a frame of this deed, where these were held before
 abbrev pub held_after : Deed → List (List ℕ) → List ℕ → List (List ℕ)
 held_after Deliver held frame = []
 held_after Lose held frame = []
@@ -27,7 +27,7 @@ abbrev pub sent_from : List Deed → ℕ → List (List ℕ) → List (List ℕ)
 sent_from plan number held [] = []
 sent_from plan number held (frame ∷ frames) = sent_for (deed_at plan number) held frame ++ sent_from plan (number + 1) (held_after (deed_at plan number) held frame) frames
 
--- which frames are held after them
+-- the frames that are held after frames are cut, from this number on, where these were held before
 abbrev pub held_from : List Deed → ℕ → List (List ℕ) → List (List ℕ) → List (List ℕ)
 held_from plan number held [] = held
 held_from plan number held (frame ∷ frames) = held_from plan (number + 1) (held_after (deed_at plan number) held frame) frames

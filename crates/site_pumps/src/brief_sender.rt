@@ -3,7 +3,7 @@ ghost use Rattle.std.specs.Prelude.{◌≡◌, ◌++◌, ◌∷◌, [], MatchBoo
 ghost use Rattle.site_pumps.specs.BriefSenders.{brief_sending};
 
 use crate::Outlet;
-use dots::{Bytes, Memory};
+use dots::{Memory, SharedBytes};
 use site_links::LinkSender;
 use std::alloc::Global;
 use std::marker::Model;
@@ -16,9 +16,9 @@ pub const MOST_OFFERS: u32 = 50;
 
 const OFFER_MILLIS: u64 = 1;
 
-/// The sender of a link, as an outlet that waits for a slow receiver only shortly (this project's own). If the link stays full for 50
-/// milliseconds the item is dropped: the receiver then *lacks items* until the link has taken a later whole. Until then an item is offered
-/// once, and waits for nothing.
+/// The sender of a link, as an outlet that waits for a slow receiver only shortly (this project's own). If the link is full at 50 offers, a
+/// millisecond apart, the item is dropped: the receiver then *lacks items* until the link has taken a later whole. Until then an item is
+/// offered once, and waits for nothing.
 #[derive(Drop)]
 pub struct BriefSender {
     link: LinkSender,
@@ -35,10 +35,16 @@ impl Model for BriefSender {
     ghost view = { λ s. record { link = s.link; lacks = s.lacks_items; taken = s.has_taken } };
 }
 
-// Offers bytes to a link at most this often, until it takes them. Returns whether it has.
-fn offer_briefly<R: Wait + Clock>(rt: &R, link: &mut LinkSender, bytes: Vec<u8>, most: u32) -> bool
+// Offers bytes to a link at most `most` times, a millisecond apart, until it takes them or is down. Returns whether it has taken them; else
+// they are dropped.
+fn offer_briefly<R: Wait + Clock>(
+    rt: &R,
+    link: &mut LinkSender,
+    bytes: SharedBytes,
+    most: u32,
+) -> bool
     ensures same { link.new.link ≡ link.old.link }
-    ensures sent { MatchBool result (link.new.sent ≡ link.old.sent ++ bytes.items ∷ [])
+    ensures sent { MatchBool result (link.new.sent ≡ link.old.sent ++ bytes ∷ [])
         (link.new.sent ≡ link.old.sent) }
 {
     let mut bytes = bytes;
@@ -71,15 +77,17 @@ impl BriefSender {
         }
     }
 
-    /// Whether an item was dropped since the link has last taken a whole: then a whole is due.
+    /// Whether an item was dropped, on a link that was not down, since `end_whole` last noted a whole that the link has taken: then a whole
+    /// is due.
     pub fn lacks_items(&self) -> bool
         ensures { result ≡ self.now.lacks }
     {
         self.lacks_items
     }
 
-    /// Notes that the last item was a whole. If the link has taken it the receiver lacks no item any more, and a mark is offered after it, an
-    /// item without a byte. Returns whether the link has taken the whole, or is down. It never waits.
+    /// Notes that the last item was a whole. If the link has taken it the receiver lacks no item any more, and a mark is offered once after
+    /// it, an item without a byte: none if its allocation is refused. Returns whether the link has taken the whole, or is down. It never
+    /// waits.
     pub fn end_whole<R: Wait>(&mut self, rt: &R, alloc: Global) -> bool
         ensures taken { self.old.taken ≡ true
             → (result ≡ true) × (self.new.lacks ≡ false) }
@@ -89,7 +97,9 @@ impl BriefSender {
         if !self.has_taken {
             return self.link.down();
         }
-        let _ = self.link.offer(rt, Vec::new(alloc));
+        if let Ok(mark) = SharedBytes::new(alloc, Vec::new(alloc)) {
+            let _ = self.link.offer(rt, mark);
+        }
         self.lacks_items = false;
         true
     }
@@ -100,14 +110,17 @@ impl<R: Wait + Clock> Outlet<R> for BriefSender {
 
     ghost given = { IsSentBriefly };
 
-    fn send(&mut self, rt: &R, item: &Bytes) -> Result<(), Memory> {
+    /// Offers the item 50 times at most, a millisecond apart, or once while the receiver lacks items. If the link doesn't take it, it is
+    /// dropped, and the receiver lacks items unless the link is down. Notes for `end_whole` whether the link has taken it. Fails only when
+    /// out of memory, and then changes nothing: that note is still of the item before.
+    fn send(&mut self, rt: &R, item: &SharedBytes) -> Result<(), Memory> {
         if self.link.down() {
             self.has_taken = false;
             return Ok(());
         }
         let most = if self.lacks_items { 1 } else { MOST_OFFERS };
         let copy = item.copy()?;
-        if offer_briefly(rt, &mut self.link, copy.into_vec(), most) {
+        if offer_briefly(rt, &mut self.link, copy, most) {
             self.has_taken = true;
             return Ok(());
         }

@@ -15,7 +15,8 @@ use dots::Memory;
 use site_journal::{Bell, DeskFault, Port, Receipt, StepDeed};
 use std::sync::Wait;
 
-// Sends the frame of a cut or a whole on each outlet, if it made one.
+// Sends the frame of a cut or a whole on each outlet, if it made one. Fails only when out of memory; then the first outlets may have been
+// given it.
 fn send_frame<R, O: Outlet<R>>(rt: &R, outlets: &mut [O], receipt: &Receipt) -> Result<(), Memory>
     ensures ok { OnOk result
         (EachLink (OutletRun O.given (frame_in receipt.now.deed)) outlets.old outlets.new) }
@@ -38,7 +39,7 @@ enum FrameKind {
     Everything,
 }
 
-// Lets the port make a frame of this kind.
+// Lets the port make a frame of this kind. The errors are the port's own.
 fn make_frame<R, P: Port<R>>(rt: &R, port: &mut P, kind: FrameKind) -> Result<Receipt, DeskFault>
     ensures made { IfOk result (λ receipt. P.makes port.old receipt port.new) }
     ensures refused { IfErr result (λ cause. P.refuses port.old cause port.new) }
@@ -55,7 +56,8 @@ fn make_frame<R, P: Port<R>>(rt: &R, port: &mut P, kind: FrameKind) -> Result<Re
     }
 }
 
-// Lets the port make a frame of this kind, sends it on each outlet, and hands the receipt to the sink.
+// Lets the port make a frame of this kind, sends it on each outlet, and hands the receipt to the sink. Errors as of `broadcast_whole`;
+// after the last the sink has the receipt.
 fn make_and_send<R: Wait, P: Port<R>, O: Outlet<R>, K: ReceiptSink>(
     rt: &R,
     port: &mut P,
@@ -90,7 +92,7 @@ fn make_and_send<R: Wait, P: Port<R>, O: Outlet<R>, K: ReceiptSink>(
 /// drops the frame. It waits where the port or an outlet does.
 ///
 /// Errors, in order: 1 `Memory`, where the sink has no room for a receipt; 2 the port's own; 3 `Memory`, where the frame can't be sent on
-/// every outlet: the first of them may have been given it (this project's own).
+/// every outlet: the first of them may have been given it, and the sink has the receipt (this project's own).
 pub fn broadcast_whole<R: Wait, P: Port<R>, O: Outlet<R>, K: ReceiptSink>(
     rt: &R,
     port: &mut P,
@@ -113,8 +115,8 @@ pub fn broadcast_whole<R: Wait, P: Port<R>, O: Outlet<R>, K: ReceiptSink>(
 /// go on. It waits where the bell, the port or an outlet does.
 ///
 /// A fault of a cut or of the whole stops it. Errors of each, in order: 1 `Memory`, where the sink has no room for a receipt; 2 the port's
-/// own; 3 `Memory`, where the frame can't be sent on every outlet: the first of them may have been given it, and no later frame holds the
-/// changes of a cut but a whole (this project's own).
+/// own; 3 `Memory`, where the frame can't be sent on every outlet: the first of them may have been given it, the sink has the receipt, and
+/// no later frame holds the changes of a cut but a whole (this project's own).
 pub fn broadcast<R: Wait, P: Port<R>, O: Outlet<R>, B: Bell<R>, K: ReceiptSink>(
     rt: &R,
     port: &mut P,

@@ -1,5 +1,6 @@
 ghost use Rattle.std.specs.Prelude.{IfNone, IfSome};
 
+use dots::SharedBytes;
 use site_links::LinkReceiver;
 use std::sync::Wait;
 
@@ -14,8 +15,8 @@ pub trait Inlet<R> {
     ghost ends: { Self → Self → Type 0 };
 
     /// Waits for the next item, and returns it. `None`: the inlet has ended.
-    fn next(&mut self, rt: &R) -> Option<Vec<u8>>
-        ensures given { IfSome result (λ item. gives self.old item.items self.new) }
+    fn next(&mut self, rt: &R) -> Option<SharedBytes>
+        ensures given { IfSome result (λ item. gives self.old item self.new) }
         ensures ended { IfNone result (ends self.old self.new) };
 }
 
@@ -26,7 +27,7 @@ impl<R: Wait> Inlet<R> for LinkReceiver {
 
     ghost ends = { ReceiverEnds };
 
-    fn next(&mut self, rt: &R) -> Option<Vec<u8>> {
+    fn next(&mut self, rt: &R) -> Option<SharedBytes> {
         self.recv(rt)
     }
 }

@@ -3,6 +3,7 @@ ghost use Rattle.std.specs.Option.{option_map_or};
 ghost use Rattle.site_pumps.specs.Pumped.{HasPumpedIn};
 
 use crate::{Inlet, ReceiptSink};
+use dots::SharedBytes;
 use site_journal::{DeskFault, Port};
 use std::sync::Wait;
 
@@ -12,12 +13,12 @@ pub struct PumpedIn {
     /// The fault that stopped it, if one did.
     pub fault: Option<DeskFault>,
     /// The bytes of the take that was refused, if one was.
-    pub refused: Option<Vec<u8>>,
+    pub refused: Option<SharedBytes>,
 }
 
 /// Lets the port take each item that the inlet gives, and hands the receipts to the sink, in order. Returns when the inlet ends or a fault
-/// stops it: the port's own, or `Memory` where the sink has no room for a receipt. It waits where the inlet or the port does (this
-/// project's own).
+/// stops it: `Memory` where the sink has no room for a receipt, before an item is received; or the port's own, with the bytes that it
+/// refused. It waits where the inlet or the port does (this project's own).
 pub fn pump_in<R: Wait, P: Port<R>, I: Inlet<R>, K: ReceiptSink>(
     rt: &R,
     port: &mut P,
@@ -28,7 +29,7 @@ pub fn pump_in<R: Wait, P: Port<R>, I: Inlet<R>, K: ReceiptSink>(
     // the receipts, and no other; it may then have refused a call.
     ensures pumped { HasPumpedIn P.makes P.refuses P.share I.gives I.ends K.holds port.old
         port.new inlet.old inlet.new sink.old sink.new
-        (option_map_or (λ bytes. bytes.items ∷ []) result.refused []) result.fault }
+        (option_map_or (λ bytes. bytes ∷ []) result.refused []) result.fault }
     // Bytes come back only of a take that the port has refused.
     ensures refused { MatchOption result.refused ⊤ (λ bytes. (cause : DeskFault)
         × (result.fault ≡ Some cause) × (P.fault port.new ≡ Some cause)) }

@@ -1,7 +1,8 @@
 //! Pumps: each carries the frames of a site to its outlets, or those of other sites from an inlet to the site.
 //!
 //! A pump has a port, outlets and an inlet as values, so that it knows nothing of locks, and a desk knows nothing of links. `pump_out`
-//! sends by a plan, a list of deeds for the frames. `broadcast` sends each frame on every outlet.
+//! sends by a plan, a list of deeds for the frames. `broadcast` sends each frame on every outlet. Bytes that have 2^63 - 1 owners get
+//! no further one: here that counts as out of memory.
 #![tactic(auto)]
 
 mod brief_sender;

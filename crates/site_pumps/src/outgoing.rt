@@ -10,12 +10,12 @@ ghost use Rattle.site_pumps.specs.Plans.{deed_at, held_after, planned, sent_for}
 
 use crate::sending::{send_each, send_item};
 use crate::{Deed, Outlet, PumpedOut};
-use dots::{Bytes, Memory};
+use dots::{Memory, SharedBytes};
 use site_journal::{DeskFault, Port, Receipt, StepDeed};
 use std::alloc::Global;
 use std::sync::Wait;
 
-// The deed for the frame of this number.
+// The deed for the frame of this number, from 0: the plan's deeds in turn, or `Deliver` where it has none.
 fn deed_of(plan: &[Deed], number: usize) -> Deed
     ensures { result ≡ deed_at plan.now number }
 {
@@ -25,13 +25,15 @@ fn deed_of(plan: &[Deed], number: usize) -> Deed
     plan[number % plan.len()]
 }
 
-// What is sent for a frame. The frames that were held before go with it, or stay held.
+// The frames that are sent for a frame by this deed. For `Hold` there are none, and it is held behind the others. Else
+// they are this frame, as often as the deed says, and then those that were held, which are held no more. Fails only
+// when out of memory; then no contract says which are held.
 fn frames_to_send(
     alloc: Global,
     deed: Deed,
-    frame: &Bytes,
-    held: &mut Vec<Bytes>,
-) -> Result<Vec<Bytes>, Memory>
+    frame: &SharedBytes,
+    held: &mut Vec<SharedBytes>,
+) -> Result<Vec<SharedBytes>, Memory>
     ensures sent { IfOk result (λ items.
         items.items ≡ sent_for deed held.old.items frame.now) }
     ensures held { OnOk result (held.new.items ≡ held_after deed held.old.items frame.now) }
@@ -53,8 +55,8 @@ fn frames_to_send(
     Ok(items)
 }
 
-// The frame of a cut, if there was something to cut.
-fn frame_of(receipt: &Receipt) -> Option<&Bytes>
+// The frame of a cut. `None` if there was nothing to cut.
+fn frame_of(receipt: &Receipt) -> Option<&SharedBytes>
     requires { IsOfCut receipt.now }
     ensures { MatchOption result (cut_frame receipt.now.deed ≡ [])
         (λ frame. cut_frame receipt.now.deed ≡ frame.now ∷ []) }
@@ -65,7 +67,8 @@ fn frame_of(receipt: &Receipt) -> Option<&Bytes>
     }
 }
 
-// Sends a frame of all that the site knows on all outlets.
+// Sends the frame of a whole on all outlets. Fails only when out of memory; then the first outlets may have been given
+// it.
 fn send_whole<R, O: Outlet<R>>(rt: &R, outlets: &mut [O], receipt: &Receipt) -> Result<(), Memory>
     requires { IsOfWhole receipt.now }
     ensures ok { OnOk result
@@ -84,7 +87,7 @@ fn send_whole<R, O: Outlet<R>>(rt: &R, outlets: &mut [O], receipt: &Receipt) -> 
 #[derive(Drop)]
 pub(crate) struct Outgoing {
     pub receipts: Vec<Receipt>,
-    pub held: Vec<Bytes>,
+    pub held: Vec<SharedBytes>,
     pub used: usize,
 }
 
@@ -101,7 +104,9 @@ impl Outgoing {
         }
     }
 
-    // Sends what the plan makes of a cut.
+    // Sends what the plan makes of a cut, and uses one deed: nothing and none for one without a frame. At most one deed
+    // was used for each receipt, so their number has no overflow. The fault is `Memory`; then each outlet was given a
+    // prefix of it.
     fn send_cut<R: Wait, O: Outlet<R>>(
         &mut self,
         rt: &R,
@@ -140,7 +145,9 @@ impl Outgoing {
         }
     }
 
-    // Cuts once more, and sends the frame as the plan says.
+    // Cuts once more, sends the frame as the plan says, and keeps the receipt. At most one deed was used for each
+    // receipt. Errors, in order: 1 `Memory`, where the receipt has no room; 2 the port's own; 3 `Memory`, as of
+    // `send_cut`, with the receipt kept.
     pub fn cut<R: Wait, P: Port<R>, O: Outlet<R>>(
         &mut self,
         rt: &R,
@@ -181,7 +188,10 @@ impl Outgoing {
         sent
     }
 
-    // Sends the held frames, and then a frame of all that the site knows.
+    // Sends the held frames, and then a frame of all that the site knows, and keeps its receipt. It is the last call,
+    // and the port's last one had no fault: a fault that the port has afterwards is that of the whole. Errors, in
+    // order: 1 `Memory`, where the receipt has no room, or a held frame can't be sent; 2 the port's own; 3 `Memory`,
+    // where the whole can't be sent, with the receipt kept.
     pub fn finish<R: Wait, P: Port<R>, O: Outlet<R>>(
         &mut self,
         rt: &R,

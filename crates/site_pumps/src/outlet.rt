@@ -1,7 +1,7 @@
 ghost use Rattle.std.specs.Prelude.{◌≡◌, ◌∷◌, [], OnErr, OnOk};
 ghost use Rattle.site_pumps.specs.Carried.{Carries};
 
-use dots::{Bytes, Memory};
+use dots::{Memory, SharedBytes};
 use site_links::LinkSender;
 use std::sync::Wait;
 
@@ -14,13 +14,14 @@ pub trait Outlet<R> {
     ghost given: { Self → List ℕ → Self → Type 0 };
 
     /// Sends the bytes `item`, or drops them if the outlet is down. Fails only when out of memory, and then sends nothing.
-    fn send(&mut self, rt: &R, item: &Bytes) -> Result<(), Memory>
+    fn send(&mut self, rt: &R, item: &SharedBytes) -> Result<(), Memory>
         ensures given { OnOk result (given self.old item.now self.new) }
         ensures err { OnErr result (self.new ≡ self.old) };
 }
 
-// Sends a copy of an item on a link, unless it is down.
-fn send_on<R: Wait>(rt: &R, link: &mut LinkSender, item: &Bytes) -> Result<(), Memory>
+// Sends an item on a link, and waits while it is full. A link that is down, or is found down, drops it. Fails only when out of memory, and
+// then sends nothing.
+fn send_on<R: Wait>(rt: &R, link: &mut LinkSender, item: &SharedBytes) -> Result<(), Memory>
     ensures ok { OnOk result (Carries (item.now ∷ []) link.old link.new) }
     ensures err { OnErr result (link.new ≡ link.old) }
 {
@@ -28,7 +29,7 @@ fn send_on<R: Wait>(rt: &R, link: &mut LinkSender, item: &Bytes) -> Result<(), M
         return Ok(());
     }
     let copy = item.copy()?;
-    let _ = link.send(rt, copy.into_vec());
+    let _ = link.send(rt, copy);
     Ok(())
 }
 
@@ -37,7 +38,7 @@ impl<R: Wait> Outlet<R> for LinkSender {
 
     ghost given = { SenderGiven };
 
-    fn send(&mut self, rt: &R, item: &Bytes) -> Result<(), Memory> {
+    fn send(&mut self, rt: &R, item: &SharedBytes) -> Result<(), Memory> {
         send_on(rt, self, item)
     }
 }

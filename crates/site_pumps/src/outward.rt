@@ -22,7 +22,8 @@ pub struct PumpedOut {
     pub fault: Option<DeskFault>,
 }
 
-// Cuts at each ring and once more, and sends the held frames, and then a frame of all that the site knows.
+// Cuts at each ring and once more, and sends the held frames, and then a frame of all that the site knows. The first error of `Outgoing::cut`
+// or `Outgoing::finish` ends it. `outgoing` has done nothing before.
 fn pump_until_end<R: Wait, P: Port<R>, O: Outlet<R>, B: Bell<R>>(
     rt: &R,
     alloc: Global,
@@ -71,7 +72,8 @@ fn pump_until_end<R: Wait, P: Port<R>, O: Outlet<R>, B: Bell<R>>(
 /// more, sends the frames that it holds, and then, whatever the plan, a frame of all that the site knows. An outlet that is down drops its
 /// frames, and the others go on. It waits where the bell, the port or an outlet does.
 ///
-/// A fault stops it: the port's own, or `Memory` where a receipt or a frame has no room (this project's own).
+/// A fault stops it, and the frames that it holds are dropped: the port's own, or `Memory` where a receipt or a frame has no room (this
+/// project's own).
 pub fn pump_out<R: Wait, P: Port<R>, O: Outlet<R>, B: Bell<R>>(
     rt: &R,
     alloc: Global,

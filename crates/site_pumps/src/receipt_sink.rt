@@ -8,7 +8,8 @@ pub trait ReceiptSink {
     ghost use Rattle.std.specs.Prelude.{List};
     ghost use Rattle.site_journal.specs.declared.receipt.Receipt.{Receipt};
 
-    /// `holds sink receipts`: the sink holds these receipts, in order, or holds none it was handed.
+    /// `holds sink receipts`: the sink was handed these receipts, in order, and holds them, or
+    /// holds none at all.
     ghost holds: { Self → List Receipt → Type 0 };
 
     /// The sink has room for one more receipt.

@@ -4,13 +4,14 @@ ghost use Rattle.site_pumps.specs.Carried.{EachLink};
 ghost use Rattle.site_pumps.specs.Outlets.{OutletBegins, OutletRun};
 
 use crate::Outlet;
-use dots::{Bytes, Memory};
+use dots::{Memory, SharedBytes};
 
-// Sends an item on each outlet.
+// Sends an item on each outlet. Fails only when out of memory; then the first
+// outlets may have been given it.
 pub(crate) fn send_item<R, O: Outlet<R>>(
     rt: &R,
     outlets: &mut [O],
-    item: &Bytes,
+    item: &SharedBytes,
 ) -> Result<(), Memory>
     ensures ok { OnOk result
         (EachLink (OutletRun O.given (item.now ∷ [])) outlets.old outlets.new) }
@@ -23,11 +24,12 @@ pub(crate) fn send_item<R, O: Outlet<R>>(
     Ok(())
 }
 
-// Sends all of these items in their order, each on every outlet.
+// Sends all of these items in their order, each on every outlet. Fails only when
+// out of memory; then each outlet was given a prefix of them.
 pub(crate) fn send_each<R, O: Outlet<R>>(
     rt: &R,
     outlets: &mut [O],
-    items: &[Bytes],
+    items: &[SharedBytes],
 ) -> Result<(), Memory>
     ensures ok { OnOk result
         (EachLink (OutletRun O.given items.now) outlets.old outlets.new) }

@@ -21,11 +21,11 @@ returns g c = record {
 
 -- an outbox more
 pub loop-i-preserved : goal.loop-i-preserved
-loop-i-preserved g c = (
-  one_more (λ old new. Handing g.O.Outbox.handed old c.args.receipt.now new) _ _ _ _ _ (search rules) (c.hand.result, c.hand.ensures) c.loop-i.invariant.0,
+loop-i-preserved g c = let handed = rw c.of-made.ensures at c.hand.ensures in (
+  one_more (λ old new. Handing g.O.Outbox.handed old c.args.receipt.now new) _ _ _ _ _ (search rules) (c.hand.result, handed) c.loop-i.invariant.0,
   λ none. elim c.if-hand.branch [
     | then-hand w ↦ absurd (true≢false (sym w.is_whole_wanted-is ∙ none))
     | else-hand w ↦ one_more (λ old new. g.O.Outbox.handed old c.args.receipt.now false new) _ _ _ _ _ (search rules)
-        (said_none g.O.Outbox.handed _ _ _ _ w.if-hand.false c.hand.ensures) (c.loop-i.invariant.1 (sym w.is_whole_wanted-is ∙ none))
+        (said_none g.O.Outbox.handed _ _ _ _ w.if-hand.false handed) (c.loop-i.invariant.1 (sym w.is_whole_wanted-is ∙ none))
   ],
 )

@@ -3,4 +3,4 @@ use Rattle.site_pumps.proofs.brief_sender.offer_briefly.Given as goal
 
 -- nothing was sent, and the bytes are there
 abbrev pub invariant-loop-turn : goal.invariant-loop-turn
-invariant-loop-turn g l = (l.link.link ≡ l.initial.link.link) × (l.link.sent ≡ l.initial.link.sent) × (l.bytes.items ≡ l.fn.bytes.items)
+invariant-loop-turn g l = (l.link.link ≡ l.initial.link.link) × (l.link.sent ≡ l.initial.link.sent) × (l.bytes ≡ l.fn.bytes)

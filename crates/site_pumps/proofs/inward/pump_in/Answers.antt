@@ -13,7 +13,7 @@ loop-init g c = ([], [], refl, refl, refl, refl, omega arith, λ before holds. s
 pub loop-preserved : goal.loop-preserved
 loop-preserved g c =
     let was = c.loop.invariant in
-    let bytes = c.in-Some-next.bytes.items in
+    let bytes = c.in-Some-next.bytes in
     let receipt = c.in-Ok.receipt in
     let counted = c.in-Ok.ensures.counted in (
       was.0 ++ receipt ∷ [],
@@ -30,7 +30,7 @@ loop-preserved g c =
 pub returns-in-Err-clause-pumped : goal.returns-in-Err-clause-pumped
 returns-in-Err-clause-pumped g c =
     let was = c.loop.invariant in
-    let bytes = c.in-Some-next.bytes.items in
+    let bytes = c.in-Some-next.bytes in
     let kept = c.in-Err.ensures.kept in record {
       receipts = was.0;
       items = was.1;

@@ -16,11 +16,11 @@ tagged_front key bytes counter size tag =
 
 pub returns-clause-taken : goal.returns-clause-taken
 returns-clause-taken c =
-    let is : c.in-Ok.bytes.items ≡ take c.args.size c.self.inside.held =
-    c.in-Ok.ensures.items ∙ c.split_at.ensures.front ∙ ap (λ b. take c.args.size b) c.as_slice-held.ensures in
+    let is : c.in-Ok.bytes ≡ take c.args.size c.self.inside.held =
+    c.in-Ok.ensures ∙ c.split_at.ensures.front ∙ ap (λ b. take c.args.size b) c.as_slice-held.ensures in
     let tag : HasTag c.self.inside.key c.self.inside.taken c.args.size c.self.inside.held = search rules in
-    let held : c.self.inside.held ≡ tagged c.self.inside.key c.self.inside.taken c.in-Ok.bytes.items ++ c.take_front.new.self =
+    let held : c.self.inside.held ≡ tagged c.self.inside.key c.self.inside.taken c.in-Ok.bytes ++ c.take_front.new.self =
     tagged_front c.self.inside.key c.self.inside.held c.self.inside.taken c.args.size tag
     ∙ ap (λ b. tagged c.self.inside.key c.self.inside.taken b ++ drop (c.args.size + 16) c.self.inside.held) (sym is)
-    ∙ ap (λ b. tagged c.self.inside.key c.self.inside.taken c.in-Ok.bytes.items ++ b) (sym c.take_front.ensures) in
+    ∙ ap (λ b. tagged c.self.inside.key c.self.inside.taken c.in-Ok.bytes ++ b) (sym c.take_front.ensures) in
     rw (← c.self.view_is) (record { held = held; taken = refl; key = refl }, is)
