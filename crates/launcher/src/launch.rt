@@ -7,10 +7,7 @@ pub trait Launch {
     /// What the site ends with.
     type Output: Drop + Send;
 
-    /// `is_ready site limit`: the site can be launched with a journal of at most `limit` steps.
-    ghost is_ready: { Self → ℕ → Type 0 };
-
-    /// `ends site limit output`: the site that was launched as `site`, with that limit, gives
-    /// `output`.
+    /// `ends site limit output`: the site that was launched as `site`, with a journal of at most `limit`
+    /// steps, gives `output`.
     ghost ends: { Self → ℕ → Self.Output → Type 0 };
 }

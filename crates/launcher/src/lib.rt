@@ -10,6 +10,7 @@ mod site_fault;
 mod sites;
 mod start;
 mod tasks;
+mod tasks_with_passes;
 mod threads;
 mod workplace;
 

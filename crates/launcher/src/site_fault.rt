@@ -2,7 +2,8 @@ ghost use Rattle.std.specs.Prelude.{◌≡◌, ◌⊎◌, ◌↔◌};
 
 use crate::LaunchFault;
 
-/// Why a site did no task, in order (this project's own).
+/// Why a site did no task (this project's own). Of the faults of several sites, the first in
+/// this order counts.
 #[derive(Clone, Copy)]
 pub enum SiteFault {
     /// The system could not start a thread.

@@ -5,7 +5,7 @@ use std::sync::{Condvar, Mutex, Wait};
 // How many sites haven't all their threads yet, and whether a site can't have them.
 #[derive(Drop)]
 struct Ready {
-    missing: u32,
+    missing: usize,
     failed: bool,
 }
 
@@ -24,7 +24,7 @@ impl Ready {
         self.failed = true;
     }
 
-    // Whether it is still open if the sites begin.
+    // Whether it is still open whether the sites begin: some site lacks threads, and none has failed.
     fn waits(&self) -> bool
         ensures { IsTrue result ↔ ((0 < self.now.missing) × (self.now.failed ≡ false)) }
     {
@@ -41,6 +41,7 @@ impl Ready {
 
 /// What the threads of all sites wait for before they do their tasks: a thread in a task may wait for
 /// something that nobody else can end, so no task begins before all threads run (this project's own).
+/// No contract sees its state.
 #[derive(Drop)]
 pub struct Start {
     ready: Mutex<Ready>,
@@ -49,7 +50,7 @@ pub struct Start {
 
 impl Start {
     /// The start of `sites` sites. It takes no memory.
-    pub fn new(sites: u32) -> Start {
+    pub fn new(sites: usize) -> Start {
         Start {
             ready: Mutex::new(Ready {
                 missing: sites,
@@ -59,19 +60,21 @@ impl Start {
         }
     }
 
-    // Reports that a site has all its threads.
+    // Reports that a site has all its threads, and wakes those that wait.
     pub(crate) fn one_ready<R: Wait>(&self, rt: &R) {
         self.ready.lock(rt).one_ready();
         self.changed.notify_all();
     }
 
-    // Reports that a site can't have all its threads, so that no site begins.
+    // Reports that a site can't have all its threads, so that no site begins, and wakes those that
+    // wait.
     pub(crate) fn fail<R: Wait>(&self, rt: &R) {
         self.ready.lock(rt).fail();
         self.changed.notify_all();
     }
 
-    // Waits until all sites have their threads or one can't. Returns whether they begin.
+    // Waits until all sites have their threads or one can't. Returns whether they begin: `false` if
+    // one can't.
     pub(crate) fn wait<R: Wait>(&self, rt: &R) -> bool {
         let ready = self.ready.lock(rt);
         let ready = self.changed.wait_while(rt, ready, |ready| ready.waits());

@@ -1,13 +1,14 @@
 //! The threads of one site: how they are started, and how they are joined.
-ghost use Rattle.std.specs.Prelude.{◌≡◌, ◌≤◌, IfOk, List, MatchOption, OnOk, length, vec_capacity};
-ghost use Rattle.std.specs.Prelude.{vec_len};
+ghost use Rattle.std.specs.Prelude.{◌≡◌, IfOk, List, MatchOption, OnOk, length, vec_len};
 ghost use Rattle.launcher.specs.Places.{AtEach};
 ghost use Rattle.launcher.specs.Promises.{IsTaskPromisedAt};
+ghost use Rattle.launcher.specs.Rooms.{IsRoomFor};
 ghost use Rattle.launcher.specs.Tasks.{AreAllDone};
 
 use crate::Workplace;
 use crate::site_fault::SiteFault;
 use crate::start::Start;
+use crate::tasks_with_passes::TasksWithPasses;
 use std::alloc::Global;
 use std::marker::PhantomData;
 use std::snapshot::Snapshot;
@@ -21,7 +22,8 @@ pub(crate) struct TaskEnd<P, O> {
     output: Option<O>,
 }
 
-// If all sites begin, this task is done at its place by this pass.
+// What the thread of a task promises: if it gives an output, the task was done at its place by this
+// pass.
 #[derive(Drop)]
 pub(crate) struct TaskPromise<S, R, T, P, O, W> {
     task: Snapshot<T>,
@@ -42,8 +44,8 @@ pub(crate) type Workers<S, R, T, P, O, W> = Vec<
     PromisedHandle<TaskEnd<P, O>, TaskPromise<S, R, T, P, O, W>>,
 >;
 
-// Waits until all threads of all sites run, and does a task at this place by this pass. Gives no
-// output if a thread can't be started.
+// Waits until all threads of all sites run, and does a task at this place by this pass. If a site
+// can't begin, drops the task and gives its pass back without an output.
 fn do_task<R: Wait, S, T: Drop, P, O, W: Workplace<S, R, T, P, O>>(
     rt: &R,
     alloc: Global,
@@ -67,8 +69,9 @@ fn do_task<R: Wait, S, T: Drop, P, O, W: Workplace<S, R, T, P, O>>(
     }
 }
 
-// Starts a thread for each task, from the last down, until one can't be started. Each thread has the
-// pass of its task's place.
+// Starts a thread for each task, from the last down, with the pass of the task's place; `workers` is
+// empty, and has room for them. If one can't be started, fails with `NoThread` and drops its task
+// and pass and those left; `workers` keeps the threads that run.
 pub(crate) fn start_tasks<
     's,
     'e: 's,
@@ -85,19 +88,19 @@ pub(crate) fn start_tasks<
     start: &'s Start,
     shared: &'s S,
     place: &'s W,
-    passes: Vec<P>,
-    tasks: Vec<T>,
+    given: TasksWithPasses<T, P>,
     workers: &mut Workers<S, R, T, P, O, W>,
 ) -> Result<(), SiteFault>
-    requires passes { vec_len passes ≡ vec_len tasks }
-    requires none { vec_len workers.old ≡ 0 }
-    requires room { vec_len tasks ≤ vec_capacity workers.old }
-    ensures number { OnOk result (vec_len workers.new ≡ vec_len tasks) }
+    requires { IsRoomFor (vec_len given.tasks) workers.old }
+    ensures number { OnOk result (vec_len workers.new ≡ vec_len given.tasks) }
     ensures promised { OnOk result (AtEach (λ k worker.
-        IsTaskPromisedAt tasks.items passes.items k worker.promise) workers.new.items) }
+        IsTaskPromisedAt given.tasks.items given.passes.items k worker.promise)
+        workers.new.items) }
 {
-    let mut passes = passes;
-    let mut tasks = tasks;
+    let TasksWithPasses {
+        mut tasks,
+        mut passes,
+    } = given;
     while let Some(task) = tasks.pop() {
         let Some(pass) = passes.pop() else {
             unreachable!();
@@ -126,7 +129,8 @@ pub(crate) fn start_tasks<
     Ok(())
 }
 
-// Joins threads whose site doesn't begin, and drops their passes.
+// Joins threads whose site doesn't begin, and drops their passes. The start has failed before, else
+// they would wait without end.
 pub(crate) fn end_tasks<R: Threads, S, T, P: Drop, O: Drop, W: Workplace<S, R, T, P, O>>(
     rt: &R,
     workers: Workers<S, R, T, P, O, W>,
@@ -145,17 +149,16 @@ pub struct TaskResults<P: Drop, O: Drop> {
     pub outputs: Vec<O>,
 }
 
-// Joins the threads of a site, and adds what they give to `results`. A thread that gives no output
-// means that no site begins.
+// Joins the threads of a site, and adds what they give to `results`, whose lists are empty and have
+// room for it. If a thread gives no output, no site begins: joins the others, drops all results, and
+// fails with `NotBegun`.
 pub(crate) fn join_tasks<R: Threads, S, T, P: Drop, O: Drop, W: Workplace<S, R, T, P, O>>(
     rt: &R,
     workers: Workers<S, R, T, P, O, W>,
     results: TaskResults<P, O>,
 ) -> Result<TaskResults<P, O>, SiteFault>
-    requires no_passes { vec_len results.passes ≡ 0 }
-    requires no_outputs { vec_len results.outputs ≡ 0 }
-    requires passes { vec_len workers ≤ vec_capacity results.passes }
-    requires outputs { vec_len workers ≤ vec_capacity results.outputs }
+    requires passes { IsRoomFor (vec_len workers) results.passes }
+    requires outputs { IsRoomFor (vec_len workers) results.outputs }
     ensures done { IfOk result (λ all. (tasks : List T) (old : List P)
         → length tasks ≡ vec_len workers
         → AtEach (λ k worker. IsTaskPromisedAt tasks old k worker.promise) workers.items

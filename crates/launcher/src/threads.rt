@@ -1,28 +1,27 @@
 //! The tasks of one site, each in a thread of its own.
-ghost use Rattle.std.specs.Prelude.{◌≡◌, ◌≤◌, IfOk, vec_capacity, vec_len};
+ghost use Rattle.std.specs.Prelude.{◌≡◌, IfOk, vec_len};
+ghost use Rattle.launcher.specs.Rooms.{IsRoomFor};
 ghost use Rattle.launcher.specs.Tasks.{AreAllDone};
 
 use crate::Workplace;
 use crate::site_fault::SiteFault;
 use crate::start::Start;
 use crate::tasks::{TaskResults, Workers, end_tasks, join_tasks, start_tasks};
+use crate::tasks_with_passes::TasksWithPasses;
 use dots::Memory;
 use std::alloc::Global;
 use std::sync::Wait;
 use std::thread;
 use std::thread::{Scope, Threads};
 
-// Room for `number` threads, and for what they give.
+// Room for `number` threads, and for what they give. Fails only when out of memory.
 fn room_for<R, S, T, P: Drop, O: Drop, W: Workplace<S, R, T, P, O>>(
     alloc: Global,
     number: usize,
 ) -> Result<(Workers<S, R, T, P, O, W>, TaskResults<P, O>), Memory>
-    ensures none { IfOk result (λ room. vec_len room.0 ≡ 0) }
-    ensures workers { IfOk result (λ room. number ≤ vec_capacity room.0) }
-    ensures no_passes { IfOk result (λ room. vec_len room.1.passes ≡ 0) }
-    ensures passes { IfOk result (λ room. number ≤ vec_capacity room.1.passes) }
-    ensures no_outputs { IfOk result (λ room. vec_len room.1.outputs ≡ 0) }
-    ensures outputs { IfOk result (λ room. number ≤ vec_capacity room.1.outputs) }
+    ensures workers { IfOk result (λ room. IsRoomFor number room.0) }
+    ensures passes { IfOk result (λ room. IsRoomFor number room.1.passes) }
+    ensures outputs { IfOk result (λ room. IsRoomFor number room.1.outputs) }
 {
     let workers = Vec::with_capacity(alloc, number)?;
     let passes = match Vec::with_capacity(alloc, number) {
@@ -43,7 +42,8 @@ fn room_for<R, S, T, P: Drop, O: Drop, W: Workplace<S, R, T, P, O>>(
 }
 
 // Starts all threads of a site, and joins them. If a thread can't be started no site begins, and the
-// site's other threads end first.
+// site's other threads end first. At `Memory` the caller lets no site begin, as `launch_sites` does.
+// The errors are those of `run_threads`.
 fn run_tasks<
     's,
     'e: 's,
@@ -60,32 +60,19 @@ fn run_tasks<
     start: &'s Start,
     shared: &'s S,
     place: &'s W,
-    passes: Vec<P>,
-    tasks: Vec<T>,
+    given: TasksWithPasses<T, P>,
 ) -> Result<TaskResults<P, O>, SiteFault>
-    requires passes { vec_len passes ≡ vec_len tasks }
-    ensures { IfOk result (λ all.
-        AreAllDone W.does tasks.items passes.items all.passes.items all.outputs.items) }
+    ensures { IfOk result (λ all. AreAllDone W.does given.tasks.items given.passes.items
+        all.passes.items all.outputs.items) }
 {
-    let (mut workers, room) = match room_for(alloc, tasks.len()) {
+    let (mut workers, room) = match room_for(alloc, given.tasks.len()) {
         Ok(room) => room,
         Err(_) => {
-            drop(passes);
-            drop(tasks);
+            drop(given);
             return Err(SiteFault::Memory);
         }
     };
-    let started = start_tasks(
-        scope,
-        rt,
-        alloc,
-        start,
-        shared,
-        place,
-        passes,
-        tasks,
-        &mut workers,
-    );
+    let started = start_tasks(scope, rt, alloc, start, shared, place, given, &mut workers);
     if let Err(fault) = started {
         start.fail(rt);
         end_tasks(rt, workers);
@@ -99,9 +86,9 @@ fn run_tasks<
 /// Does each of a site's tasks at this place, by the pass of the task's place and in a thread of its
 /// own, and returns when all have ended. No task begins before all threads of all sites run.
 ///
-/// Errors, in order: 1 `NoThread`, if the system could not start a thread; 2 `Memory`; 3 `NotBegun`,
-/// if another site can't have its threads. No task of the site is then done, and all are dropped (this
-/// project's own).
+/// Errors, in order: 1 `Memory`; 2 `NoThread`, if the system could not start a thread; 3 `NotBegun`,
+/// if another site can't have its threads. No task of the site is then done, and all are dropped with
+/// their passes (this project's own). No contract says which error it is.
 pub fn run_threads<
     R: Threads + Wait + Sync,
     S: Sync,
@@ -118,17 +105,17 @@ pub fn run_threads<
     passes: Vec<P>,
     tasks: Vec<T>,
 ) -> Result<TaskResults<P, O>, SiteFault>
-    requires passes { vec_len passes ≡ vec_len tasks }
+    requires { vec_len passes ≡ vec_len tasks }
     ensures done { IfOk result (λ all.
         AreAllDone W.does tasks.items passes.items all.passes.items all.outputs.items) }
 {
+    let given = TasksWithPasses { tasks, passes };
     thread::scope(
         thread::scope_env(),
         rt,
         move |scope| -> Result<TaskResults<P, O>, SiteFault>
-            requires passes { vec_len passes ≡ vec_len tasks }
-            ensures { IfOk result (λ all.
-                AreAllDone W.does tasks.items passes.items all.passes.items all.outputs.items) }
-        { run_tasks(scope, rt, alloc, start, shared, place, passes, tasks) },
+            ensures { IfOk result (λ all. AreAllDone W.does given.tasks.items given.passes.items
+                all.passes.items all.outputs.items) }
+        { run_tasks(scope, rt, alloc, start, shared, place, given) },
     )
 }

@@ -8,7 +8,7 @@ pub trait Workplace<S, R, T, P, O> {
     /// `new`.
     ghost does: { T → P → O → P → Type 0 };
 
-    /// Does the task by this pass, and gives the pass back.
+    /// Does the task by this pass. Returns the pass, and what the task gives.
     fn do_task(&self, rt: &R, alloc: Global, shared: &S, task: T, pass: P) -> (P, O)
         ensures { does task pass result.1 result.0 };
 }

@@ -1,3 +1,4 @@
 pub mod Ends
 pub mod Ledgers
+pub mod Limits
 pub mod Tasks

@@ -1,31 +1,30 @@
 //! One site: its desk, and its threads.
-ghost use Rattle.std.specs.Prelude.{◌≡◌, ◌≤◌, ℕ, IfOk, List, Some, slice_get, vec_len};
+ghost use Rattle.std.specs.Prelude.{◌≡◌, IfOk, List, vec_len};
 ghost use Rattle.replica.specs.Site.{SiteState};
-ghost use Rattle.site_desk.specs.Passes.{AreNewPasses};
-ghost use Rattle.site_desk.specs.declared.desk.TheConstants.{MOST_PASSES};
-ghost use Rattle.site_journal.specs.Journals.{IsOfSite};
-ghost use Rattle.site_journal.specs.declared.journaled.TheConstants.{MOST_STEPS};
+ghost use Rattle.site_desk.specs.Passes.{AreAll, AreNewPasses};
 ghost use Rattle.site_threads.specs.Ends.{HasEnded};
-ghost use Rattle.site_threads.specs.Ledgers.{IsLedgerOf};
+ghost use Rattle.site_threads.specs.Ledgers.{IsBlankFor, IsJournalFor, IsLedgerOf};
+ghost use Rattle.site_threads.specs.Limits.{IsStepLimit};
 ghost use Rattle.site_threads.specs.Tasks.{AreDone, DoesTasks};
 
 use crate::task::SiteWorkplace;
 use crate::{SiteOutput, SiteTasks, Task, TaskOutput, TaskResults};
 use launcher::{Launch, SiteFault, Start, Workplace};
-use site_desk::{MOST_PASSES, Pass, SiteDesk, SiteLedger, close};
-use site_journal::{Journaled, MOST_STEPS};
+use site_desk::{Pass, SiteDesk, SiteLedger, close};
+use site_journal::Journaled;
 use std::alloc::Global;
 use std::marker::Brand;
 use std::sync::Wait;
 use std::sync::ledger::Blank;
 use std::thread::Threads;
 
-/// Does each of a site's tasks at this place, by the pass of the task's place and in a thread of its
-/// own, and returns when all have ended. No task begins before all threads of all sites run.
+/// Does each of a site's tasks at this place, by the pass of the task's place, which is new, and in a
+/// thread of its own, and returns when all have ended. No task begins before all threads of all sites
+/// run.
 ///
-/// Errors, in order: 1 `NoThread`, if the system could not start a thread; 2 `Memory`; 3 `NotBegun`,
+/// Errors, in order: 1 `Memory`; 2 `NoThread`, if the system could not start a thread; 3 `NotBegun`,
 /// if another site can't have its threads. No task of the site is then done, and all are dropped (this
-/// project's own).
+/// project's own). No contract says which error it is.
 pub fn run_threads<
     L: SiteLedger + Send + Sync,
     R: Threads + Wait + Sync,
@@ -43,6 +42,7 @@ pub fn run_threads<
 ) -> Result<TaskResults<L, T::Output>, SiteFault>
     requires place { DoesTasks W.does T.gives L.site L.names }
     requires passes { AreNewPasses (vec_len tasks) passes.items }
+    ensures all { IfOk result (λ all. AreAll (vec_len tasks) all.passes.items) }
     ensures done { IfOk result (λ all.
         AreDone T.gives L.site L.names tasks.items all.passes.items all.outputs.items) }
 {
@@ -55,9 +55,7 @@ pub fn close_site<L: SiteLedger, T: TaskOutput>(
     desk: SiteDesk<L>,
     all: TaskResults<L, T::Output>,
 ) -> SiteOutput<T::Output>
-    requires all { vec_len all.passes ≡ desk.passes }
-    requires order { (place : ℕ) (pass : _) → slice_get all.passes.items place ≡ Some pass
-        → pass.ordinal ≡ place }
+    requires { AreAll desk.passes all.passes.items }
     ensures { (tasks : List T) (replica : SiteState) → IsLedgerOf L.site L.names L.base replica
         → AreDone T.gives L.site L.names tasks all.passes.items all.outputs.items
         → HasEnded T.gives replica L.limit tasks result.journal result.outputs.items }
@@ -69,7 +67,8 @@ pub fn close_site<L: SiteLedger, T: TaskOutput>(
     }
 }
 
-// Runs the threads of a site at its desk, and closes the desk.
+// Runs the threads of a site at its desk, drops what they share, and closes the desk. Errors as of
+// `run_threads`: no task was done, and all are dropped.
 fn run_desk<
     L: SiteLedger + Send + Sync,
     R: Threads + Wait + Sync,
@@ -103,7 +102,8 @@ fn run_desk<
     }
 }
 
-// Makes the desk of a site under a ledger, runs its threads, and closes the desk.
+// Makes the desk of a site under a ledger, runs its threads, and closes the desk. Errors: `Memory`, if
+// there is none for the desk; those of `run_desk`. Then no task was done, and all are dropped.
 fn run_site<
     L: SiteLedger + Send + Sync,
     R: Threads + Wait + Sync,
@@ -118,15 +118,8 @@ fn run_site<
     shared: S,
     tasks: Vec<T>,
 ) -> Result<SiteOutput<T::Output>, SiteFault>
-    requires name { blank.name ≡ L.name }
-    requires ledger { blank.parts ≡ L.parts }
-    requires parts { blank.parts ≡ vec_len tasks }
-    requires some { 1 ≤ vec_len tasks }
-    requires few { vec_len tasks ≤ MOST_PASSES }
-    requires begun { journal.count ≡ 0 }
-    requires site { IsOfSite L.site L.names journal }
-    requires limit { journal.limit ≡ L.limit }
-    requires base { journal.base ≡ L.base }
+    requires blank { IsBlankFor L.name L.parts (vec_len tasks) blank }
+    requires journal { IsJournalFor L.site L.names L.limit L.base journal }
     ensures { IfOk result (λ end. (replica : SiteState)
         → IsLedgerOf L.site L.names L.base replica
         → HasEnded T.gives replica L.limit tasks.items end.journal end.outputs.items) }
@@ -143,7 +136,8 @@ fn run_site<
     }
 }
 
-// Runs a site from its replica on, under a ledger that this call names.
+// Runs a site from its replica on, under a ledger that this call names. Errors: `Memory`, if there is
+// none for the journal; those of `run_site`. Then no task was done, and all are dropped.
 pub(crate) fn run_replica<R: Threads + Wait + Sync, S: Sync + Drop, T: Task<S, R> + Send + Drop>(
     rt: &R,
     alloc: Global,
@@ -151,10 +145,7 @@ pub(crate) fn run_replica<R: Threads + Wait + Sync, S: Sync + Drop, T: Task<S, R
     limit: u32,
     site: SiteTasks<S, T>,
 ) -> Result<SiteOutput<T::Output>, SiteFault>
-    requires least { 1 ≤ limit }
-    requires most { limit ≤ MOST_STEPS }
-    requires some { 1 ≤ vec_len site.tasks }
-    requires few { vec_len site.tasks ≤ MOST_PASSES }
+    requires { IsStepLimit limit }
     ensures { IfOk result (λ end. HasEnded T.gives site.replica limit site.tasks.items
         end.journal end.outputs.items) }
 {
@@ -178,15 +169,9 @@ pub(crate) fn run_replica<R: Threads + Wait + Sync, S: Sync + Drop, T: Task<S, R
 }
 
 impl<S: Drop, T: TaskOutput + Drop> Launch for SiteTasks<S, T> {
-    ghost use Rattle.std.specs.Prelude.{◌≤◌, vec_len};
-    ghost use Rattle.site_desk.specs.declared.desk.TheConstants.{MOST_PASSES};
-    ghost use Rattle.site_journal.specs.declared.journaled.TheConstants.{MOST_STEPS};
     ghost use Rattle.site_threads.specs.Ends.{HasEnded};
 
     type Output = SiteOutput<T::Output>;
-
-    ghost is_ready = { λ site limit. (1 ≤ limit) × (limit ≤ MOST_STEPS)
-        × (1 ≤ vec_len site.tasks) × (vec_len site.tasks ≤ MOST_PASSES) };
 
     ghost ends = { λ site limit end. HasEnded T.gives site.replica limit site.tasks.items
         end.journal end.outputs.items };

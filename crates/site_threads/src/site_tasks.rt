@@ -1,3 +1,6 @@
+ghost use Rattle.std.specs.Prelude.{◌≤◌, vec_len};
+ghost use Rattle.site_desk.specs.declared.desk.TheConstants.{MOST_PASSES};
+
 use replica::Replica;
 use site_journal::Journaled;
 
@@ -10,6 +13,8 @@ pub struct SiteTasks<S: Drop, T: Drop> {
     pub shared: S,
     /// The site's tasks, 1 to 256. Each is done by a thread of its own, with the pass of its place.
     pub tasks: Vec<T>,
+    pub ghost some: { 1 ≤ vec_len tasks },
+    pub ghost few: { vec_len tasks ≤ MOST_PASSES },
 }
 
 /// What one site ends with (this project's own).

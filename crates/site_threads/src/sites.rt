@@ -1,23 +1,17 @@
 //! All sites, each in a thread of its own.
-ghost use Rattle.std.specs.List.{All};
-ghost use Rattle.std.specs.Prelude.{◌≡◌, ◌≤◌, IfOk, vec_len};
-ghost use Rattle.dots.specs.declared.limits.TheConstants.{SITES};
-ghost use Rattle.site_desk.specs.declared.desk.TheConstants.{MOST_PASSES};
-ghost use Rattle.site_journal.specs.declared.journaled.TheConstants.{MOST_STEPS};
+ghost use Rattle.std.specs.Prelude.{◌≡◌, IfOk, vec_len};
 ghost use Rattle.site_threads.specs.Ends.{HasEnded, HaveEnded};
+ghost use Rattle.site_threads.specs.Limits.{IsStepLimit};
 
 use crate::site::run_replica;
 use crate::{SiteOutput, SiteTasks, Task};
-use dots::SITES;
 use launcher::{LaunchFault, SiteFault, Start, launch_sites};
-use site_desk::MOST_PASSES;
-use site_journal::MOST_STEPS;
 use std::alloc::Global;
 use std::sync::Wait;
 use std::thread::Threads;
 
-/// Runs at most 64 sites at once, and returns when all their tasks have ended: each site's journal and what its
-/// tasks gave, in order. A site begins as its replica, and has the replica's number and queues. A new
+/// Runs sites at once, and returns when all their tasks have ended: each site's journal and what its tasks
+/// gave, in order. A site begins as its replica, and has the replica's number and queues. A new
 /// replica makes a new site; a replica that a store has kept goes on. The journal of a site has room
 /// for `limit` steps, 1 to 1,000,000. Each of its tasks, 1 to 256, runs in a thread of its own, by the
 /// pass of the task's place.
@@ -25,29 +19,22 @@ use std::thread::Threads;
 /// No task begins before all threads of all sites run. If a thread can't start, or memory is lacking,
 /// no task begins, and all are dropped.
 ///
-/// Errors, in order: 1 `NoThread`, if the system could not start a thread; 2 `Memory` (this
-/// project's own).
+/// Errors, in order: 1 `Memory`, if there is none to start sites; 2 `NoThread`, if the system could
+/// not start a thread; 3 `Memory`, if a site had none (this project's own). No contract says which.
 pub fn run_sites<R: Threads + Wait + Sync, S: Send + Sync + Drop, T: Task<S, R> + Send + Drop>(
     rt: &R,
     alloc: Global,
     limit: u32,
     all: Vec<SiteTasks<S, T>>,
 ) -> Result<Vec<SiteOutput<T::Output>>, LaunchFault>
-    requires sites { vec_len all ≤ SITES }
-    requires least { 1 ≤ limit }
-    requires most { limit ≤ MOST_STEPS }
-    requires some { All (λ site. 1 ≤ vec_len site.tasks) all.items }
-    requires few { All (λ site. vec_len site.tasks ≤ MOST_PASSES) all.items }
+    requires { IsStepLimit limit }
     ensures number { IfOk result (λ ends. vec_len ends ≡ vec_len all) }
     ensures ends { IfOk result (λ ends. HaveEnded T.gives limit all.items ends.items) }
 {
-    let start = Start::new(all.len() as u32);
+    let start = Start::new(all.len());
     let lent = &start;
     let run = |site: SiteTasks<S, T>| -> Result<SiteOutput<T::Output>, SiteFault>
-        requires least { 1 ≤ limit }
-        requires most { limit ≤ MOST_STEPS }
-        requires some { 1 ≤ vec_len site.tasks }
-        requires few { vec_len site.tasks ≤ MOST_PASSES }
+        requires { IsStepLimit limit }
         ensures { IfOk result (λ end. HasEnded T.gives site.replica limit site.tasks.items
             end.journal end.outputs.items) }
     { run_replica(rt, alloc, lent, limit, site) };

@@ -57,6 +57,7 @@ impl<L: SiteLedger, S, R, T: Task<S, R>> Workplace<S, R, T, Pass<L>, T::Output>
     ghost does = { λ task old output new.
         (new.ordinal ≡ old.ordinal) × T.gives task L.site L.names old output new };
 
+    // Runs the task at the site's desk, by this pass, and gives the pass back.
     fn do_task(
         &self,
         rt: &R,

@@ -6,7 +6,6 @@ use Rattle.std.proofs.lemmas.Option.{get_or_from_slice_get, slice_get-get_or, sl
 use Rattle.std.specs.Global.{Vec}
 use Rattle.site_desk.specs.Passes.{PassState, new_pass}
 use Rattle.site_desk.specs.Ports.{HasDoneAll}
-use Rattle.site_desk.specs.declared.desk.TheConstants.{MOST_PASSES}
 use Rattle.site_journal.specs.declared.desk_fault.DeskFault.{DeskFault}
 use Rattle.site_journal.specs.declared.journaled.TheConstants.{MOST_STEPS}
 use Rattle.site_journal.specs.Journals.{JournalState}
@@ -224,24 +223,6 @@ all_first {S} {G} Called names works all ends tasks have long = all_got (λ (end
     let is = ended_at Called names works all ends tasks have site work.0 end work.1 there in
     let asked = asked_of Called is.replica work.0 is.links end.journal end.outputs.items is.ended in
     (asked.0, asked.2.gate_after, asked.1, asked.2.gate_is))
-
--- each site has as many tasks as there are sites, and one more
-tasks_long : {S G : Type 0} (names : List (List ℕ)) (works : List (SiteWork G)) (all : List (SiteTasks S (WorkTask G))) → HaveTasks names works all
-    → (site : ℕ) (of : SiteTasks S (WorkTask G)) → slice_get all site ≡ Some of → vec_len of.tasks ≡ length works + 1
-tasks_long {S} {G} names works all tasks site of at =
-    let work = got_within works site (let low = slice_get_within all site of at in let e = tasks.number in omega (arith, low, e)) in
-    let is = (tasks.each site work.0 of work.1 at).tasks in
-    let long : length of.tasks.items ≡ length is.links.from.items + 2 = ap length is.tasks_are ∙ (let e = mapped_long {B = WorkTask G} Take is.links.from.items in omega (arith, e)) in
-    let others = is.others in omega (arith, long, of.tasks.ok.0, others)
-
--- each site has at least one task
-pub all_some : {S G : Type 0} (names : List (List ℕ)) (works : List (SiteWork G)) (all : List (SiteTasks S (WorkTask G))) → HaveTasks names works all → All (λ (of : SiteTasks S (WorkTask G)). 1 ≤ vec_len of.tasks) all
-all_some {S} {G} names works all tasks = all_got (λ (of : SiteTasks S (WorkTask G)). 1 ≤ vec_len of.tasks) all (λ site of at. let long = tasks_long names works all tasks site of at in omega (arith, long))
-
--- each site has few tasks
-pub all_few : {S G : Type 0} (names : List (List ℕ)) (works : List (SiteWork G)) (all : List (SiteTasks S (WorkTask G))) → HaveTasks names works all → length works ≤ 8
-    → All (λ (of : SiteTasks S (WorkTask G)). vec_len of.tasks ≤ MOST_PASSES) all
-all_few {S} {G} names works all tasks few = all_got (λ (of : SiteTasks S (WorkTask G)). vec_len of.tasks ≤ MOST_PASSES) all (λ site of at. let long = tasks_long names works all tasks site of at in omega (arith, long, few))
 
 -- each site has few outputs
 pub outputs_few : {S G : Type 0} (Called : G → ℕ → G → Type 0) (names : List (List ℕ)) (works : List (SiteWork G)) (all : List (SiteTasks S (WorkTask G))) (ends : List (SiteOutput (WorkOutput G)))

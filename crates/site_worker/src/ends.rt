@@ -8,22 +8,24 @@ ghost use Rattle.site_worker.specs.WorkTasks.{AreRunsOf, FirstHasGate, HaveTasks
 ghost use Rattle.site_worker.specs.WorkTasks.{tasks_for};
 
 use crate::tasks::{WorkOutput, WorkTask, insert_with_room, tasks_of};
-use crate::{Rope, SiteEnd, SiteWork};
+use crate::{SiteEnd, SiteWork};
 use dots::{Memory, SiteId};
 use replica::{QueueList, Replica};
-use site_journal::{Gate, Receipt};
+use site_desk::{Gate, SiteBell};
+use site_journal::Receipt;
 use site_links::{LinkEnds, SiteLinks};
 use site_threads::{SiteOutput, SiteTasks};
 use std::alloc::Global;
 
-// The input of a site of this number with these queues: a new replica, and this work.
+// The input of a site of this number with these queues: a new replica, and this work. Fails only when
+// out of memory, and then drops work and links.
 fn launch_of<G: Gate + Send + Drop>(
     alloc: Global,
     number: SiteId,
     list: &QueueList,
     work: SiteWork<G>,
     links: LinkEnds,
-) -> Result<SiteTasks<Rope, WorkTask<G>>, Memory>
+) -> Result<SiteTasks<SiteBell, WorkTask<G>>, Memory>
     requires from { vec_len links.from ≤ 7 }
     ensures number { IfOk result (λ site. site.replica.site ≡ number) }
     ensures names { IfOk result (λ site. site.replica.names ≡ list.now) }
@@ -37,18 +39,19 @@ fn launch_of<G: Gate + Send + Drop>(
     };
     Ok(SiteTasks {
         replica: Replica::new(alloc, number, queues),
-        shared: Rope::new(),
+        shared: SiteBell::new(),
         tasks,
     })
 }
 
-// The inputs of all sites, with the numbers 0, 1 and so on and these queues, and a rope for each.
+// The inputs of all sites, with the numbers 0, 1 and so on and these queues, and a bell for each.
+// Fails only when out of memory, and then drops works and links.
 pub(crate) fn all_tasks<G: Gate + Send + Drop>(
     alloc: Global,
     list: &QueueList,
     works: Vec<SiteWork<G>>,
     links: SiteLinks,
-) -> Result<Vec<SiteTasks<Rope, WorkTask<G>>>, Memory>
+) -> Result<Vec<SiteTasks<SiteBell, WorkTask<G>>>, Memory>
     requires few { vec_len works ≤ 8 }
     requires links { AreLinksOf (vec_len works) links }
     ensures { IfOk result (λ all. HaveTasks list.now works.items all.items) }
@@ -96,7 +99,7 @@ pub(crate) struct EndRoom<G: Drop> {
     pub receipts: Vec<Vec<Vec<Receipt>>>,
 }
 
-// Room for the ends of `sites` sites.
+// Room for the ends of `sites` sites. Fails only when out of memory.
 pub(crate) fn room_for<G: Drop>(alloc: Global, sites: usize) -> Result<EndRoom<G>, Memory>
     ensures no_ends { IfOk result (λ room. vec_len room.ends ≡ 0) }
     ensures ends { IfOk result (λ room. sites ≤ vec_capacity room.ends) }
@@ -126,7 +129,8 @@ pub(crate) fn room_for<G: Drop>(alloc: Global, sites: usize) -> Result<EndRoom<G
     Ok(EndRoom { ends, receipts })
 }
 
-// The end of a site, from the results of its tasks. Its fault is that of the first task that has one.
+// The end of a site, from the results of its tasks. Its fault and its gate are those of the first task
+// that has one. `receipts` is empty, with room for a list of each task.
 fn run_of<G: Gate + Send + Drop>(
     end: SiteOutput<WorkOutput<G>>,
     receipts: Vec<Vec<Receipt>>,
@@ -163,7 +167,7 @@ fn run_of<G: Gate + Send + Drop>(
     }
 }
 
-// The ends of sites, from the results of their tasks.
+// The ends of sites, in their order, from the results of their tasks, in the room of `room_for`.
 pub(crate) fn runs_of<G: Gate + Send + Drop>(
     ends: Vec<SiteOutput<WorkOutput<G>>>,
     room: EndRoom<G>,

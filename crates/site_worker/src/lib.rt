@@ -6,22 +6,22 @@
 #![tactic(auto)]
 
 mod asking;
+mod each_ring;
 mod ends;
 mod pumping;
-mod rope;
 mod run_fault;
 mod running;
 mod tasks;
 mod work;
 
 pub use dots::Memory;
-pub use rope::{Rope, RopeBell};
+pub use each_ring::EachRing;
 pub use run_fault::RunFault;
 pub use running::{MOST_RUN_SITES, run_sites};
 pub use site_audit::{AuditFault, audit};
-pub use site_desk::{CloseFault, DeskPort, Pass, SiteDesk, SiteLedger, close};
+pub use site_desk::{CloseFault, DeskPort, Gate, Pass, SiteBell, SiteDesk, SiteLedger, close};
 pub use site_journal::{
-    Bell, DeskFault, Gate, Journaled, Port, Receipt, SettleFault, Step, StepDeed, settle,
+    Bell, DeskFault, Journaled, Port, Receipt, SettleFault, Step, StepDeed, settle,
 };
 pub use site_links::{Link, LinkReceiver, LinkSender, compare};
 pub use site_pumps::{

@@ -13,7 +13,8 @@ ghost use Rattle.site_worker.specs.Working.{receipts_in};
 use crate::ends::{all_tasks, room_for, runs_of};
 use crate::{RunFault, SiteEnd, SiteWork};
 use replica::QueueList;
-use site_journal::{Gate, MOST_STEPS};
+use site_desk::Gate;
+use site_journal::MOST_STEPS;
 use site_links::{SiteLinks, link_all};
 use site_threads::{LaunchFault, run_sites as launch};
 use std::alloc::Global;
@@ -33,7 +34,7 @@ fn run_fault_of(fault: LaunchFault) -> RunFault
     }
 }
 
-// Runs the sites of works, with these links between them.
+// Runs the sites of works, with these links between them. Errors as of `run_sites`, without `BadSites`.
 fn run_works<R: Threads + Wait + Sync, G: Gate + Send + Drop>(
     rt: &R,
     alloc: Global,
@@ -75,7 +76,8 @@ fn run_works<R: Threads + Wait + Sync, G: Gate + Send + Drop>(
 /// site has threads of its own:
 ///
 /// - one runs its asks in order, and calls its gate at each with the ask's place, from 0;
-/// - one cuts after each answered ask, and sends as the site's plan directs;
+/// - one cuts after each answered ask, and sends as the site's plan directs; after the last it sends
+///   a frame of all that the site knows;
 /// - one for each other site takes the frames of that site.
 ///
 /// The first two have the site's passes 0 and 1, the others those from 2 on, in the order of the other
@@ -83,9 +85,9 @@ fn run_works<R: Threads + Wait + Sync, G: Gate + Send + Drop>(
 /// of its links, and the bytes of a take that was refused. The others go on, and the site's end has the
 /// fault of the first pass that has one.
 ///
-/// Errors, in order: 1 `BadSites`, exactly if there are no works, or more than 8; 2 `NoThread`, if the
-/// system could not start a thread; 3 `Memory`. With `NoThread` and `Memory` no ask is run, and the
-/// works are dropped.
+/// Errors, in order: 1 `BadSites`, exactly if there are no works, or more than 8; 2 `Memory`, or
+/// `NoThread` if the system could not start a thread. After an error no ask is run, and the works are
+/// dropped.
 pub fn run_sites<R: Threads + Wait + Sync, G: Gate + Send + Drop>(
     rt: &R,
     alloc: Global,

@@ -5,10 +5,10 @@ ghost use Rattle.site_worker.specs.WorkTasks.{tasks_for};
 
 use crate::asking::{Worked, ask_all};
 use crate::pumping::{send_all, take_all};
-use crate::{LinkPlan, Rope, SiteWork};
+use crate::{LinkPlan, SiteWork};
 use dots::Memory;
-use site_desk::{Pass, SiteDesk, SiteLedger};
-use site_journal::{DeskFault, Gate, Receipt};
+use site_desk::{Gate, Pass, SiteBell, SiteDesk, SiteLedger};
+use site_journal::{DeskFault, Receipt};
 use site_links::{LinkEnds, LinkReceiver, LinkSender};
 use site_threads::{Task, TaskEnd, TaskOutput};
 use status_report::Ask;
@@ -66,12 +66,14 @@ fn end_of<L: SiteLedger, G: Drop>(worked: Worked<L>, gate: Option<G>) -> TaskEnd
     TaskEnd { pass, output }
 }
 
-impl<G: Gate + Send + Drop, R: Wait> Task<Rope, R> for WorkTask<G> {
+impl<G: Gate + Send + Drop, R: Wait> Task<SiteBell, R> for WorkTask<G> {
+    // Does the task at the desk; `shared` is the site's bell, which the task that asks rings and
+    // ends, and the one that sends hears to its end. Only a task that asks gives a gate back.
     fn run<L: SiteLedger>(
         self,
         rt: &R,
         alloc: Global,
-        shared: &Rope,
+        shared: &SiteBell,
         desk: &SiteDesk<L>,
         pass: Pass<L>,
     ) -> TaskEnd<L, WorkOutput<G>> {
@@ -106,13 +108,15 @@ pub(crate) fn insert_with_room<T: Drop>(list: &mut Vec<T>, place: usize, element
 }
 
 // The tasks of a site: one thread asks, one sends, and one takes for each link that receives.
+// Fails only when out of memory, and then drops work and links.
 pub(crate) fn tasks_of<G: Drop>(
     alloc: Global,
     work: SiteWork<G>,
     links: LinkEnds,
 ) -> Result<Vec<WorkTask<G>>, Memory>
     requires { vec_len links.from ≤ 7 }
-    ensures { IfOk result (λ tasks. tasks.items ≡ tasks_for work links) }
+    ensures tasks { IfOk result (λ tasks. tasks.items ≡ tasks_for work links) }
+    ensures len { IfOk result (λ tasks. vec_len tasks ≡ vec_len links.from + 2) }
 {
     let SiteWork { asks, plan, gate } = work;
     let LinkEnds { to, from } = links;

@@ -1,18 +1,17 @@
 //! One site with a store: its desk, its threads, and how its store comes back.
-ghost use Rattle.std.specs.Prelude.{◌≡◌, ◌≤◌, ℕ, [], IfOk, IfSome, List, None, Some, slice_get, vec_len};
-ghost use Rattle.replica.specs.Site.{IsSameSite, SiteState};
-ghost use Rattle.site_desk.specs.Passes.{AreNewPasses};
-ghost use Rattle.site_desk.specs.declared.desk.TheConstants.{MOST_PASSES};
-ghost use Rattle.site_journal.specs.Journals.{IsOfSite};
-ghost use Rattle.site_journal.specs.declared.journaled.TheConstants.{MOST_STEPS};
-ghost use Rattle.site_threads.specs.Ledgers.{IsLedgerOf};
+ghost use Rattle.std.specs.Prelude.{◌≡◌, IfOk, IfSome, List, None, Some, vec_len};
+ghost use Rattle.replica.specs.Site.{SiteState};
+ghost use Rattle.site_desk.specs.Passes.{AreAll, AreNewPasses};
+ghost use Rattle.site_threads.specs.Ledgers.{IsBlankFor, IsJournalFor, IsLedgerOf};
+ghost use Rattle.site_threads.specs.Limits.{IsStepLimit};
 ghost use Rattle.site_threads.specs.Tasks.{AreDone};
+ghost use Rattle.stored_threads.specs.NewStores.{IsNewStore};
 ghost use Rattle.stored_threads.specs.StoredEnds.{HasStoredEnd, IsStoreOf};
 
 use crate::stored_task::StoredWorkplace;
 use crate::{StoredSiteOutput, StoredSiteTasks, StoredTask};
-use site_desk::{MOST_PASSES, Pass, SiteDesk};
-use site_journal::{DeskFault, Journaled, MOST_STEPS};
+use site_desk::{Pass, SiteDesk};
+use site_journal::{DeskFault, Journaled};
 use site_threads::{
     Launch, SiteFault, SiteOutput, Start, TaskOutput, TaskResults, close_site, run_threads,
 };
@@ -26,7 +25,8 @@ use stored_desk::{
     CommitFault, NewHistory, NewMark, SavedSteps, StepStore, StoredDesk, StoredLedger,
 };
 
-// Saves all steps that the site has done, and tries again while it is out of memory. Returns whether all are saved.
+// Saves all steps that the site has done, and tries again while it is out of memory. Returns whether all are saved:
+// `false` where the store has failed. No contract says this.
 fn settle<D: StepStore, L: StoredLedger, R: Wait>(rt: &R, desk: &StoredDesk<D, L>) -> bool {
     for _ in rt.forever() {
         match desk.settle_all(rt) {
@@ -38,7 +38,8 @@ fn settle<D: StepStore, L: StoredLedger, R: Wait>(rt: &R, desk: &StoredDesk<D, L
     unreachable!()
 }
 
-// The store of what was saved, and why steps may be missing in it, if they may: not all are saved, or no store came back.
+// The store of what was saved, and why steps may be missing in it, if they may: a commit has failed, or (`Other`) not all
+// are saved, or no store came back.
 fn store_of<D: StepStore, L: StoredLedger>(
     saved: Option<SavedSteps<D, L>>,
     are_all_saved: bool,
@@ -60,15 +61,14 @@ fn store_of<D: StepStore, L: StoredLedger>(
     }
 }
 
-// Saves all steps of a site whose tasks are all done, and closes its desk.
+// Saves all steps of a site whose tasks are all done, as `settle` does, and closes its desk. Where not all are saved, the
+// result says why.
 fn close_stored_site<D: StepStore, L: StoredLedger, R: Wait, T: TaskOutput>(
     rt: &R,
     desk: StoredDesk<D, L>,
     all: TaskResults<L, T::Output>,
 ) -> StoredSiteOutput<D, T::Output>
-    requires all { vec_len all.passes ≡ desk.passes }
-    requires order { (place : ℕ) (pass : _) → slice_get all.passes.items place ≡ Some pass
-        → pass.ordinal ≡ place }
+    requires { AreAll desk.passes all.passes.items }
     ensures { (tasks : List T) (replica : SiteState) → IsLedgerOf L.site L.names L.base replica
         → AreDone T.gives L.site L.names tasks all.passes.items all.outputs.items
         → HasStoredEnd T.gives D.holds D.keeps D.begun replica L.limit tasks result }
@@ -85,7 +85,8 @@ fn close_stored_site<D: StepStore, L: StoredLedger, R: Wait, T: TaskOutput>(
     }
 }
 
-// Runs the threads of a site at its desk, and closes the desk.
+// Runs the threads of a site at its desk, drops what they share, saves all steps, and closes the desk. Errors as of
+// `run_threads`: no task was done, and all are dropped.
 fn run_desk<
     L: StoredLedger + Send + Sync,
     R: Threads + Wait + Sync,
@@ -123,7 +124,7 @@ where
     }
 }
 
-// Makes the desk of a site over its store under a ledger, runs its threads, and closes the desk.
+// Makes the desk of a site over its store under a ledger, runs its threads, and closes the desk. Errors as of `run_desk`.
 fn run_site<
     L: StoredLedger + Send + Sync,
     R: Threads + Wait + Sync,
@@ -149,9 +150,7 @@ where
     requires all { desk.passes ≡ vec_len tasks }
     requires history { history ≡ L.history }
     requires mark { mark ≡ L.mark }
-    requires holds { D.holds store [] }
-    requires keeps { D.keeps store [] }
-    requires begun { IsSameSite (D.begun store) L.base }
+    requires store { IsNewStore D.holds D.keeps D.begun L.base store }
     ensures { IfOk result (λ end. (replica : SiteState)
         → IsLedgerOf L.site L.names L.base replica
         → HasStoredEnd T.gives D.holds D.keeps D.begun replica L.limit tasks.items end) }
@@ -170,7 +169,8 @@ where
     }
 }
 
-// Makes the desk of a site under a ledger, and runs the site over its store.
+// Makes the desk of a site under a ledger, and runs the site over its store. Errors: `Memory`, if there is none for the
+// desk; those of `run_site`. Then no task was done, and all are dropped.
 fn run_journal<
     L: StoredLedger + Send + Sync,
     R: Threads + Wait + Sync,
@@ -192,20 +192,11 @@ fn run_journal<
 where
     D::Group: Send,
     D::Base: Send,
-    requires name { blank.name ≡ L.name }
-    requires ledger { blank.parts ≡ L.parts }
-    requires parts { blank.parts ≡ vec_len tasks }
-    requires some { 1 ≤ vec_len tasks }
-    requires few { vec_len tasks ≤ MOST_PASSES }
-    requires new { journal.count ≡ 0 }
-    requires site { IsOfSite L.site L.names journal }
-    requires limit { journal.limit ≡ L.limit }
-    requires base { journal.base ≡ L.base }
+    requires blank { IsBlankFor L.name L.parts (vec_len tasks) blank }
+    requires journal { IsJournalFor L.site L.names L.limit L.base journal }
     requires history { history ≡ L.history }
     requires mark { mark ≡ L.mark }
-    requires holds { D.holds store [] }
-    requires keeps { D.keeps store [] }
-    requires begun { IsSameSite (D.begun store) L.base }
+    requires store { IsNewStore D.holds D.keeps D.begun L.base store }
     ensures { IfOk result (λ end. (replica : SiteState)
         → IsLedgerOf L.site L.names L.base replica
         → HasStoredEnd T.gives D.holds D.keeps D.begun replica L.limit tasks.items end) }
@@ -227,7 +218,8 @@ where
     }
 }
 
-// Runs a site from its replica on, under a ledger that this call names.
+// Runs a site from its replica on, under a ledger that this call names. Errors: `Memory`, if there is none for the mark
+// or the journal; those of `run_journal`. Then no task was done, and all are dropped.
 pub(crate) fn run_replica<
     R: Threads + Wait + Sync,
     D: StepStore + Send,
@@ -243,13 +235,8 @@ pub(crate) fn run_replica<
 where
     D::Group: Send,
     D::Base: Send,
-    requires least { 1 ≤ limit }
-    requires most { limit ≤ MOST_STEPS }
-    requires some { 1 ≤ vec_len site.tasks }
-    requires few { vec_len site.tasks ≤ MOST_PASSES }
-    requires holds { D.holds site.store [] }
-    requires keeps { D.keeps site.store [] }
-    requires begun { IsSameSite (D.begun site.store) site.replica }
+    requires limit { IsStepLimit limit }
+    requires store { IsNewStore D.holds D.keeps D.begun site.replica site.store }
     ensures { IfOk result (λ end. HasStoredEnd T.gives D.holds D.keeps D.begun site.replica limit
         site.tasks.items end) }
 {
@@ -286,18 +273,9 @@ where
 }
 
 impl<D: StepStore + Send, S: Drop, T: TaskOutput + Drop> Launch for StoredSiteTasks<D, S, T> {
-    ghost use Rattle.std.specs.Prelude.{◌≤◌, [], vec_len};
-    ghost use Rattle.replica.specs.Site.{IsSameSite};
-    ghost use Rattle.site_desk.specs.declared.desk.TheConstants.{MOST_PASSES};
-    ghost use Rattle.site_journal.specs.declared.journaled.TheConstants.{MOST_STEPS};
     ghost use Rattle.stored_threads.specs.StoredEnds.{HasStoredEnd};
 
     type Output = StoredSiteOutput<D, T::Output>;
-
-    ghost is_ready = { λ site limit. (1 ≤ limit) × (limit ≤ MOST_STEPS)
-        × (1 ≤ vec_len site.tasks) × (vec_len site.tasks ≤ MOST_PASSES)
-        × D.holds site.store [] × D.keeps site.store []
-        × IsSameSite (D.begun site.store) site.replica };
 
     ghost ends = { λ site limit end. HasStoredEnd T.gives D.holds D.keeps D.begun site.replica limit
         site.tasks.items end };

@@ -1,3 +1,6 @@
+ghost use Rattle.std.specs.Prelude.{◌≤◌, vec_len};
+ghost use Rattle.site_desk.specs.declared.desk.TheConstants.{MOST_PASSES};
+
 use replica::Replica;
 use site_journal::Journaled;
 use stored_desk::CommitFault;
@@ -7,12 +10,14 @@ use stored_desk::CommitFault;
 pub struct StoredSiteTasks<D: Drop, S: Drop, T: Drop> {
     /// The site before its first step.
     pub replica: Replica,
-    /// The store of the site's steps, which has none yet.
+    /// The store of the site's steps, which has none since this start.
     pub store: D,
     /// What the site's threads share.
     pub shared: S,
     /// The site's tasks, 1 to 256. Each is done by a thread of its own, with the pass of its place.
     pub tasks: Vec<T>,
+    pub ghost some: { 1 ≤ vec_len tasks },
+    pub ghost few: { vec_len tasks ≤ MOST_PASSES },
 }
 
 /// What one site with a store ends with (this project's own).

@@ -1,32 +1,28 @@
 //! All sites with a store, each in a thread of its own.
 ghost use Rattle.std.specs.List.{All};
-ghost use Rattle.std.specs.Prelude.{◌≡◌, ◌≤◌, [], IfOk, vec_len};
-ghost use Rattle.dots.specs.declared.limits.TheConstants.{SITES};
-ghost use Rattle.replica.specs.Site.{IsSameSite};
-ghost use Rattle.site_desk.specs.declared.desk.TheConstants.{MOST_PASSES};
-ghost use Rattle.site_journal.specs.declared.journaled.TheConstants.{MOST_STEPS};
+ghost use Rattle.std.specs.Prelude.{◌≡◌, IfOk, vec_len};
+ghost use Rattle.site_threads.specs.Limits.{IsStepLimit};
+ghost use Rattle.stored_threads.specs.NewStores.{IsNewStore};
 ghost use Rattle.stored_threads.specs.StoredEnds.{HasStoredEnd, HaveStoredEnds};
 
 use crate::stored_site::run_replica;
 use crate::{StoredSiteOutput, StoredSiteTasks, StoredTask};
-use dots::SITES;
-use site_desk::MOST_PASSES;
-use site_journal::MOST_STEPS;
 use site_threads::{LaunchFault, SiteFault, Start, launch_sites};
 use std::alloc::Global;
 use std::sync::Wait;
 use std::thread::Threads;
 use stored_desk::StepStore;
 
-/// Runs at most 64 sites with stores at once, and returns when all their tasks have ended. A site begins as its replica, over a store of
-/// that site that has no step yet. Its journal has room for `limit` steps, 1 to 1,000,000. Each of its tasks, 1 to 256, runs in a thread of
-/// its own, by the pass of the task's place. Once all have ended the site saves all its steps, unless a commit has failed, and gives its
-/// journal, what its tasks gave, and its store. While it is out of memory it tries again.
+/// Runs sites with stores at once, and returns when all their tasks have ended. A site begins as its replica, over a store of
+/// that site that has no step since this start. Its journal has room for `limit` steps, 1 to 1,000,000. Each of its tasks, 1 to 256, runs
+/// in a thread of its own, by the pass of the task's place. Once all have ended the site saves all its steps, unless a commit has failed,
+/// and gives its journal, what its tasks gave, and its store. While it is out of memory it tries again.
 ///
 /// No task begins before all threads of all sites run. If a thread can't start, or memory is lacking, no task begins, and all are dropped,
 /// stores too.
 ///
-/// Errors, in order: 1 `NoThread`, if the system could not start a thread; 2 `Memory` (this project's own).
+/// Errors, in order: 1 `Memory`, if there is none to start sites; 2 `NoThread`, if the system could not start a thread; 3 `Memory`, if a
+/// site had none (this project's own). No contract says which.
 pub fn run_stored_sites<
     R: Threads + Wait + Sync,
     D: StepStore + Send,
@@ -41,28 +37,18 @@ pub fn run_stored_sites<
 where
     D::Group: Send,
     D::Base: Send,
-    requires sites { vec_len all ≤ SITES }
-    requires least { 1 ≤ limit }
-    requires most { limit ≤ MOST_STEPS }
-    requires some { All (λ site. 1 ≤ vec_len site.tasks) all.items }
-    requires few { All (λ site. vec_len site.tasks ≤ MOST_PASSES) all.items }
-    requires holds { All (λ site. D.holds site.store []) all.items }
-    requires keeps { All (λ site. D.keeps site.store []) all.items }
-    requires begun { All (λ site. IsSameSite (D.begun site.store) site.replica) all.items }
+    requires limit { IsStepLimit limit }
+    requires stores { All (λ site. IsNewStore D.holds D.keeps D.begun site.replica site.store)
+        all.items }
     ensures number { IfOk result (λ ends. vec_len ends ≡ vec_len all) }
     ensures ends { IfOk result (λ ends.
         HaveStoredEnds T.gives D.holds D.keeps D.begun limit all.items ends.items) }
 {
-    let start = Start::new(all.len() as u32);
+    let start = Start::new(all.len());
     let lent = &start;
     let run = |site: StoredSiteTasks<D, S, T>| -> Result<StoredSiteOutput<D, T::Output>, SiteFault>
-        requires least { 1 ≤ limit }
-        requires most { limit ≤ MOST_STEPS }
-        requires some { 1 ≤ vec_len site.tasks }
-        requires few { vec_len site.tasks ≤ MOST_PASSES }
-        requires holds { D.holds site.store [] }
-        requires keeps { D.keeps site.store [] }
-        requires begun { IsSameSite (D.begun site.store) site.replica }
+        requires limit { IsStepLimit limit }
+        requires store { IsNewStore D.holds D.keeps D.begun site.replica site.store }
         ensures { IfOk result (λ end. HasStoredEnd T.gives D.holds D.keeps D.begun site.replica limit
             site.tasks.items end) }
     { run_replica(rt, alloc, lent, limit, site) };

@@ -39,6 +39,7 @@ impl<D: StepStore, L: StoredLedger, S, R, T: StoredTask<S, R>> Workplace<
     ghost does = { λ task old output new.
         (new.ordinal ≡ old.ordinal) × T.gives task L.site L.names old output new };
 
+    // Runs the task at the site's desk, by this pass, and gives the pass back.
     fn do_task(
         &self,
         rt: &R,

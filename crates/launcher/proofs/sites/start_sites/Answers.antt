@@ -6,10 +6,10 @@ use Rattle.launcher.proofs.sites.start_sites.Goals as goal
 -- no thread yet, and all sites are left
 pub loop-site-init : goal.loop-site-init
 loop-site-init g c = (
-  omega (arith, c.requires.none),
-  c.requires.room,
+  omega (arith, c.requires.room.none),
+  c.requires.room.room,
   c.requires.ready,
-  (λ k none low. absurd (omega (arith, low, c.requires.none, c.args.sites.now.ok.0))),
+  (λ k none low. absurd (omega (arith, low, c.requires.room.none, c.args.sites.now.ok.0))),
   each_itself c.args.all.items,
 )
 
@@ -18,7 +18,7 @@ pub loop-site-preserved : goal.loop-site-preserved
 loop-site-preserved g c =
     let was = c.loop-site.invariant in
     let less = c.in-Some.ensures.cases in
-    let ready = each_pop (λ k site. g.X.Launch.is_ready site c.args.limit) c.loop-site.all.items c.pop.new.self.items c.in-Some.site c.in-Some.ensures.items was.2 in
+    let ready = each_pop (λ k site. goal.F-pre g c.args.run.now site) c.loop-site.all.items c.pop.new.self.items c.in-Some.site c.in-Some.ensures.items was.2 in
     let kept = each_pop (λ place site. slice_get c.args.all.items place ≡ Some site) c.loop-site.all.items c.pop.new.self.items c.in-Some.site c.in-Some.ensures.items was.4 in
     let made = c.in-Ok.ensures in (
       omega (arith, c.push_reserved.ensures.len, was.0, less),
@@ -35,4 +35,4 @@ loop-site-preserved g c =
 -- a site that is left can be launched
 pub start_site-requires-clause-ready : goal.start_site-requires-clause-ready
 start_site-requires-clause-ready g c = λ _ _.
-    (each_pop (λ k site. g.X.Launch.is_ready site c.args.limit) c.loop-site.all.items c.pop.new.self.items c.in-Some.site c.in-Some.ensures.items c.loop-site.invariant.2).1
+    (each_pop (λ k site. goal.F-pre g c.args.run.now site) c.loop-site.all.items c.pop.new.self.items c.in-Some.site c.in-Some.ensures.items c.loop-site.invariant.2).1

@@ -8,7 +8,7 @@ use Rattle.launcher.proofs.sites.start_sites.Given as goal
 abbrev pub invariant-loop-site : goal.invariant-loop-site
 invariant-loop-site g l = (vec_len l.sites + vec_len l.all ≡ vec_len l.fn.all)
     × (vec_len l.fn.all ≤ vec_capacity l.sites)
-    × All (λ site. g.X.Launch.is_ready site l.fn.limit) l.all.items
+    × All (λ site. goal.F-pre g l.fn.run site) l.all.items
     × AtEach (λ k site. IsEndPromisedAt l.fn.limit l.fn.all.items k site.promise) l.sites.items
     × AtEach (λ place site. slice_get l.fn.all.items place ≡ Some site) l.all.items
 

@@ -4,4 +4,4 @@ use Rattle.launcher.proofs.threads.run_tasks.Goals as goal
 
 pub returns : goal.returns
 returns g c = IfOk-weaker c.join_tasks.result _ _
-    (λ all are. are c.args.tasks.items c.args.passes.items (sym c.args.tasks.ok.0 ∙ sym c.in_default.ensures.number) c.in_default.ensures.promised) c.join_tasks.ensures.done
+    (λ all are. are c.args.given.tasks.items c.args.given.passes.items (sym c.args.given.tasks.ok.0 ∙ sym c.in_default.ensures.number) c.in_default.ensures.promised) c.join_tasks.ensures.done

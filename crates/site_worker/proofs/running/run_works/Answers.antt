@@ -1,12 +1,6 @@
 use Rattle.std.proofs.Common.{arith}
-use Rattle.site_worker.proofs.Ended.{all_few, all_first, all_ran, all_some, outputs_few}
+use Rattle.site_worker.proofs.Ended.{all_first, all_ran, outputs_few}
 use Rattle.site_worker.proofs.running.run_works.Goals as goal
-
-pub run_sites-requires-clause-some : goal.run_sites-requires-clause-some
-run_sites-requires-clause-some g c = λ _ _. all_some c.args.list.now c.args.works.items c.in-Ok-all_tasks.all.items c.in-Ok-all_tasks.ensures
-
-pub run_sites-requires-clause-few : goal.run_sites-requires-clause-few
-run_sites-requires-clause-few g c = λ _ _. all_few c.args.list.now c.args.works.items c.in-Ok-all_tasks.all.items c.in-Ok-all_tasks.ensures (let few = c.requires.few in omega (arith, few, c.args.works.ok.0))
 
 -- each site has the gate of its work
 pub runs_of-requires-clause-gates : goal.runs_of-requires-clause-gates

@@ -5,8 +5,12 @@ use Rattle.stored_threads.proofs.StoreLemmas.{stored_limit}
 use Rattle.stored_threads.proofs.stored_site.run_replica.Goals as goal
 
 -- the store begins as the journal's base
-pub run_journal-requires-clause-begun : goal.run_journal-requires-clause-begun
-run_journal-requires-clause-begun g c = λ _ _. site_through _ _ _ c.requires.begun c.in-Ok-new.ensures.begun.base
+pub run_journal-requires-clause-store : goal.run_journal-requires-clause-store
+run_journal-requires-clause-store g c = λ _ _. let new = c.requires.store in record {
+  holds = new.holds;
+  keeps = new.keeps;
+  begun_is = site_through _ _ _ new.begun_is c.in-Ok-new.ensures.begun.base;
+}
 
 -- the ledger is that of the replica
 pub returns-in-Ok-new : goal.returns-in-Ok-new
