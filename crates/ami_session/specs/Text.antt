@@ -24,7 +24,7 @@ text_upon (Ends bytes) rest answers = bytes
 text_upon (Asks ask waiting) rest [] = []
 text_upon (Asks ask waiting) rest (answer ∷ answers) = answer_reply waiting answer ++ rest answers
 
--- the replies of session `s` to messages, with these answers of the site, up to the first Logoff or the end
+-- the replies of session `s` to messages, with these answers of the site, up to the first message that ends it, or to all
 abbrev pub replies : SessionState → List Fields → List Answer → List ℕ
 replies s [] answers = []
 replies s (m ∷ ms) answers = text_upon (reaction s m) (replies (after s m) ms) answers

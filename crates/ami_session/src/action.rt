@@ -25,7 +25,7 @@ pub enum Action {
     QueueStatus,
 }
 
-// The first of two fields that the message lacks.
+// The first of two fields that the message lacks. `None`: it has both.
 fn first_absent(
     message: &Message,
     first: &'static str,
@@ -71,7 +71,7 @@ fn removal_refusal_text(refusal: Refusal) -> &'static str
 impl Action {
     ghost use Rattle.ami_session.specs.Actions.{absent_in, action_named, row_of};
 
-    /// The action of this name, compared without ASCII case.
+    /// The action of this name, compared without ASCII case. `None`: the site answers no such action.
     pub fn named(name: &[u8]) -> Option<Action>
         ensures { result ≡ action_named name.now }
     {
@@ -92,7 +92,7 @@ impl Action {
         }
     }
 
-    /// The first field that the message must have and lacks, in the action's order.
+    /// The first field that the message must have and lacks, in the action's order. `None`: it lacks none.
     pub fn missing(self, message: &Message) -> Option<&'static str>
         ensures { option_map (λ name. name.now) result ≡ absent_in (row_of self) message.now }
     {
@@ -105,7 +105,7 @@ impl Action {
         }
     }
 
-    /// The success text, by whether the message's `Paused` says yes.
+    /// The success text, by whether the message's `Paused` says yes; empty for a `QueueStatus`, which is answered by a report.
     pub fn success(self, says_yes: bool) -> &'static str
         ensures { result.now ≡ (row_of self).success says_yes }
     {

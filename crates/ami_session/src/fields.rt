@@ -39,16 +39,16 @@ pub fn says_yes(message: &Message, name: &str) -> bool
     is_yes(text_at(message, name))
 }
 
-// The penalty of a message; 0 where it is absent.
+// The penalty of a message; 0 where it is absent. `None`: it can't be read.
 fn penalty_in(message: &Message) -> Option<Penalty>
     ensures { result ≡ penalty_of (unwrap_or (value_of (codes "Penalty") message.now) (codes "0")) }
 {
     penalty_of(message.get(b"Penalty").unwrap_or(b"0"))
 }
 
-/// The ask of a QueueAdd without an absent required field; `paused` is whether its Paused says yes. `Err` names the first field, in
-/// the order Queue, Interface, Penalty, Paused, MemberName, StateInterface, that can't be read. An absent penalty is 0, an absent
-/// Paused is no.
+/// The ask of a QueueAdd without an absent required field; `paused` is whether its Paused says yes. `Err` names the first field, in the
+/// order Queue, Interface, Penalty, MemberName, StateInterface, that can't be read; a Paused can always be read. An absent penalty is 0, an
+/// absent Paused is no.
 pub fn queue_add(message: &Message, paused: bool) -> Result<Command, Unreadable>
     requires none_absent { absent_in (row_of Action.QueueAdd) message.now ≡ None }
     requires paused { paused ≡ says_yes (codes "Paused") message.now }
@@ -96,7 +96,7 @@ pub fn queue_remove(message: &Message) -> Result<Command, Unreadable>
     Ok(Command::Remove { queue, interface })
 }
 
-// The queue of a value that may be absent; `None` where it is no name.
+// The queue of a value; `Some(None)` where there is no value, `None` where it is no name.
 fn optional_queue(value: Option<&[u8]>) -> Option<Option<QueueName>>
     ensures { MatchOption result
         (is_unread Name (option_map (λ v. v.now) value.entry) ≡ true)
@@ -111,7 +111,7 @@ fn optional_queue(value: Option<&[u8]>) -> Option<Option<QueueName>>
 
 /// The ask of a QueuePause without an absent required field; `paused` is whether its Paused says yes. Without a Queue it is for
 /// every queue that the interface is a member of. `Err` names the first field, in the order Interface, Queue, Reason, that can't be
-/// read; a reason is read whatever Paused says.
+/// read; a reason is read whatever Paused says, and dropped if that isn't yes.
 pub fn queue_pause(message: &Message, paused: bool) -> Result<Command, Unreadable>
     requires none_absent { absent_in (row_of Action.QueuePause) message.now ≡ None }
     requires paused { paused ≡ says_yes (codes "Paused") message.now }
@@ -180,7 +180,7 @@ pub fn queue_member_ring_in_use(message: &Message) -> Result<Command, Unreadable
     })
 }
 
-// The text of a value that may be absent; `None` where it is no text.
+// The text of a value; `Some(None)` where there is no value, `None` where it is no text.
 fn optional_text(value: Option<&[u8]>) -> Option<Option<Text80>>
     ensures { MatchOption result
         (is_unread Text (option_map (λ v. v.now) value.entry) ≡ true)

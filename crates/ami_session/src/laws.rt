@@ -30,8 +30,8 @@ pub fn text_grows_with_the_messages()
         → IsFrontOfLonger s messages more answers }
 {}
 
-/// A stream has one text: that of its messages up to a Logoff, or of all of them, however its bytes are cut, and whatever
-/// follows a Logoff.
+/// A stream has one text: that of its messages up to the first that ends the session, or of all of them, however its
+/// bytes are cut, and whatever follows that message.
 pub fn a_stream_has_one_text()
     ensures { (s : SessionState) (bytes : List ℕ) (messages others : List Fields)
         → AreOf s bytes messages → AreOf s bytes others → SameText s messages others }

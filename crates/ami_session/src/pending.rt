@@ -25,6 +25,7 @@ impl Model for Pending {
 }
 
 impl Pending {
+    // A message of this action and ActionID that waits; `says_yes`: its `Paused` does.
     pub(crate) fn new(action: Action, says_yes: bool, action_id: Bytes) -> Pending
         ensures { result ≡ record { action = action; says_yes = says_yes; id = action_id } }
     {

@@ -22,6 +22,7 @@ pub enum Response {
 }
 
 impl Response {
+    // The word of the field `Response`.
     fn text(self) -> &'static [u8]
         ensures { result.now ≡ response_text self }
     {

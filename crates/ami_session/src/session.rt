@@ -62,6 +62,7 @@ impl Model for Session {
     } };
 }
 
+// The reply with this error. It fails only when out of memory.
 fn error(alloc: Global, id: &Bytes, text: &str) -> Result<Act, Memory>
     ensures { IfOk result
         (λ act. reaction_of act ≡ Replies (reply (codes "Error") id.now text.now)) }
@@ -70,6 +71,7 @@ fn error(alloc: Global, id: &Bytes, text: &str) -> Result<Act, Memory>
     Ok(Act::Reply(bytes))
 }
 
+// The reply that ends a session. It fails only when out of memory.
 fn goodbye(alloc: Global, id: &Bytes) -> Result<Act, Memory>
     ensures { IfOk result
         (λ act. reaction_of act
@@ -79,7 +81,7 @@ fn goodbye(alloc: Global, id: &Bytes) -> Result<Act, Memory>
     Ok(Act::End(bytes))
 }
 
-// The ask of an action, or the field that can't be read.
+// The ask of an action. `Err`: the first field that can't be read.
 fn ask_of(action: Action, message: &Message, paused: bool, id: Bytes) -> Result<Ask, Unreadable>
     requires id { id ≡ id_of message.now }
     requires paused { paused ≡ says_yes (codes "Paused") message.now }
@@ -98,7 +100,8 @@ fn ask_of(action: Action, message: &Message, paused: bool, id: Bytes) -> Result<
     }
 }
 
-// The ask of a message of a known action, or what is wrong with it.
+// The reaction to a message of a known action: the ask of the site, or else an error, for the first required field that is absent, or the
+// first field that can't be read. It fails only when out of memory.
 fn asked(alloc: Global, action: Action, message: &Message, id: Bytes) -> Result<Act, Memory>
     requires { id ≡ id_of message.now }
     ensures { IfOk result (λ act. reaction_of act ≡ named_reaction (Some action) message.now) }
@@ -118,8 +121,8 @@ fn asked(alloc: Global, action: Action, message: &Message, id: Bytes) -> Result<
 }
 
 impl Session {
-    /// A session that isn't logged in, for this user and secret; no client can send one that is no login word (`is_login_word`).
-    /// It greets with `Queue Sites Call Manager/1.0.0`.
+    /// A session that isn't logged in, for this user and secret; no client can send one that is no login word (`is_login_word`). Refused
+    /// Logins don't end it. It greets with `Queue Sites Call Manager/1.0.0`.
     pub fn new(user: Text80, secret: Text80) -> Session
         ensures { result ≡ record {
           greeting = own_greeting;
@@ -202,8 +205,8 @@ impl Session {
         }
     }
 
-    // Whether user and secret are the session's, byte by byte; an absent one counts as empty. Compares both to their ends, so that
-    // the time that it takes doesn't show how many bytes of them are right.
+    // Whether user and secret are the session's, byte by byte; an absent one counts as empty. A trusted session accepts all. Compares
+    // both to their ends, so that the time that it takes doesn't show how many bytes of them are right.
     fn accepts(&self, message: &Message) -> bool
         ensures { result ≡ accepts self.now.login message.now }
     {
@@ -231,7 +234,8 @@ impl Session {
         }
     }
 
-    // The reaction to a Login: accepted, or an error, which uses up a try.
+    // The reaction to a Login: accepted, or an error, which uses up a try. Fails only when out of memory, and then the session stays as it
+    // was.
     fn login(&mut self, alloc: Global, message: &Message, id: &Bytes) -> Result<Act, Memory>
         requires { id.now ≡ id_of message.now }
         ensures reaction { IfOk result
@@ -253,7 +257,7 @@ impl Session {
         Ok(Act::Reply(bytes))
     }
 
-    // The session's reaction to a message of this action.
+    // The session's reaction to a message of this action. Fails only when out of memory, and then the session stays as it was.
     fn react(
         &mut self,
         alloc: Global,

@@ -28,12 +28,14 @@ pub fn is_yes(value: &[u8]) -> bool
         || is_word(value, b"on")
 }
 
+// Whether a value holds a CR or NUL.
 fn has_bad_in_id(value: &[u8]) -> bool
     ensures { result ≡ list_any is_bad_in_id value.now }
 {
     value.iter().any(|b| *b == b'\r' || *b == 0)
 }
 
+// A value as an ActionID; no bytes if it holds a CR or NUL.
 fn clean_id(value: &[u8]) -> &[u8]
     ensures { result.now ≡ clean_id value.now }
 {
@@ -47,7 +49,7 @@ pub fn id_of(message: &Message) -> &[u8]
     clean_id(message.get(b"ActionID").unwrap_or(b""))
 }
 
-/// The text of a value, where it is one.
+/// The text of a value. `None`: it has more than 80 bytes, or a CR, LF or NUL.
 pub fn text_of(value: &[u8]) -> Option<Text80>
     ensures { result ≡ text_of value.now }
 {
@@ -81,21 +83,21 @@ pub fn is_same_text(one: &[u8], other: &[u8]) -> bool
     is_same & left.is_empty() & right.is_empty()
 }
 
-/// The interface of a value, where it is one.
+/// The interface of a value. `None`: it is empty or no text.
 pub fn interface_of(value: &[u8]) -> Option<Interface>
     ensures { result ≡ name_of value.now }
 {
     Interface::new(value).ok()
 }
 
-/// The queue name of a value, where it is one.
+/// The queue name of a value. `None`: it is empty or no text.
 pub fn queue_of(value: &[u8]) -> Option<QueueName>
     ensures { result ≡ name_of value.now }
 {
     QueueName::new(value).ok()
 }
 
-/// The penalty of 1 to 10 decimal digits, at most 2147483647.
+/// The penalty of 1 to 10 decimal digits, at most 2147483647. `None`: the value is none.
 pub fn penalty_of(digits: &[u8]) -> Option<Penalty>
     ensures { result ≡ penalty_of digits.now }
 {

@@ -3,7 +3,7 @@ use dots::Memory;
 use std::alloc::{AllocError, Global};
 use std::sync::{Condvar, Mutex, Wait};
 
-/// Lines that threads add and one thread writes (this project's own). Who adds a line waits for the lock alone, under which nothing is
+/// Lines that threads add and one thread writes (this project's own). Who adds a line waits only for the lock, under which nothing is
 /// written and no memory is taken: at most 1,000 lines wait, and further ones are dropped and counted.
 #[derive(Drop)]
 pub struct EventLog {
@@ -21,7 +21,8 @@ impl EventLog {
         })
     }
 
-    /// Adds a line, without the line's end. It is dropped, and counted, where 1,000 lines wait or where there was no memory for it.
+    /// Adds a line, without the line's end, and wakes the thread that waits in `next`. The line is dropped, and counted, where 1,000 lines
+    /// wait or where there was no memory for it.
     pub fn add<R: Wait>(&self, rt: &R, line: Result<String, AllocError>) {
         match line {
             Ok(line) => self.waiting.lock(rt).add(line),
@@ -30,14 +31,15 @@ impl EventLog {
         self.changed.notify_all();
     }
 
-    /// Ends the log: lines that wait are still given.
+    /// Ends the log, and wakes the thread that waits in `next`, which still returns the lines that wait, and how many were dropped, before
+    /// the end.
     pub fn end<R: Wait>(&self, rt: &R) {
         self.waiting.lock(rt).end();
         self.changed.notify_all();
     }
 
-    /// Waits until there is something to give, and gives it: the oldest line; or where none waits how many were dropped, if any were; or
-    /// else the end.
+    /// Waits until there is something to give, and returns it: the oldest line; or where none waits how many were dropped, if any were; or
+    /// else the end. A line and a count are given once; the end stays.
     pub fn next<R: Wait>(&self, rt: &R) -> LogEvent {
         let waiting = self.waiting.lock(rt);
         let mut waiting = self
@@ -46,8 +48,8 @@ impl EventLog {
         waiting.take_next()
     }
 
-    /// Writes each line to standard error, until the log has ended. Where lines were dropped it writes how many, as
-    /// `queue_sites: 12 log lines dropped`. A failure of standard error is ignored.
+    /// Writes each line to standard error, until the log has ended and has given everything. Where lines were dropped it writes how many,
+    /// as `queue_sites: 12 log lines dropped`. A failure of standard error is ignored.
     pub fn write_until_end<R: Wait + Eprint>(&self, rt: &R) {
         for _ in rt.forever() {
             match self.next(rt) {

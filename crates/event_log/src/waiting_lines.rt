@@ -30,7 +30,7 @@ pub(crate) struct WaitingLines {
 }
 
 impl WaitingLines {
-    // No lines yet, with room for as many as may wait.
+    // No lines yet, with room for as many as may wait. Error: `Memory`.
     pub fn new(alloc: Global) -> Result<WaitingLines, Memory>
         ensures lines { IfOk result (λ waiting. waiting.lines.items ≡ []) }
         ensures dropped { IfOk result (λ waiting. waiting.dropped ≡ 0) }
@@ -44,7 +44,7 @@ impl WaitingLines {
         })
     }
 
-    // Counts a line that is dropped.
+    // Counts a line that is dropped; the count stays at 2^64 - 1 once it is that.
     pub fn drop_one(&mut self)
         ensures lines { self.new.lines.items ≡ self.old.lines.items }
         ensures dropped { self.old.dropped + 1 < 2 ^ 64 → self.new.dropped ≡ self.old.dropped + 1 }
@@ -92,7 +92,8 @@ impl WaitingLines {
         self.lines.is_empty() && self.dropped == 0 && !self.has_ended
     }
 
-    // Gives the oldest line, or else how many were dropped, if any were, or else the end.
+    // Takes the oldest line, or else how many were dropped, if any were, and counts from 0 again; or
+    // else the end, which stays. The log isn't idle (`is_idle`).
     pub fn take_next(&mut self) -> LogEvent
         requires { (self.old.lines.items ≡ []) → (self.old.dropped ≡ 0)
             → self.old.has_ended ≡ true }

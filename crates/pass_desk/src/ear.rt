@@ -1,8 +1,8 @@
 //! The ear of the thread that sends what a site does: it hears when to cut, and when to make a frame of all that the site knows.
 ghost use Rattle.std.specs.Prelude.{◌≡◌, false, true};
 
-use crate::{Heard, SiteBell};
 use dots::MOST_COUNT;
+use site_desk::{Heard, SiteBell};
 use site_journal::Bell;
 use std::marker::Model;
 use std::sync::Wait;
@@ -54,7 +54,7 @@ impl<'a> Model for Ear<'a> {
 }
 
 impl<'a> Ear<'a> {
-    /// An ear for this bell, in its first round, which has heard nothing yet.
+    /// An ear for this bell, in its first round, which has heard nothing yet and doesn't rest.
     pub fn new(bell: &'a SiteBell) -> Ear<'a>
         ensures rings { result.rings ≡ 0 }
         ensures ended { result.ended ≡ false }
@@ -91,7 +91,8 @@ impl<'a> Ear<'a> {
         self.has_bell_ended
     }
 
-    /// Whether the site has removed a member since this was last called.
+    /// Whether a ring heard since the last such call said that the site has removed a member. No contract says this: `EarState` is without
+    /// it.
     pub fn take_room(&mut self) -> bool
         ensures { self.new ≡ self.old }
     {
@@ -100,14 +101,15 @@ impl<'a> Ear<'a> {
         has_room
     }
 
-    /// Ends the round: a whole is due.
+    /// Ends the round, since its caller knows that a whole is due: `wait` returns `false` until the next round begins.
     pub fn end_round(&mut self)
         ensures { self.new ≡ record self.old { ended = true } }
     {
         self.has_ended = true;
     }
 
-    /// Begins the next round, once a whole was sent.
+    /// Begins the next round, once a whole was sent: the time to the next one begins now, and that a peer has got room is forgotten. No
+    /// contract says either.
     pub fn begin_round<R: Clock>(&mut self, rt: &R)
         ensures { self.new ≡ record self.old { rings = 0; ended = false } }
     {
@@ -117,7 +119,8 @@ impl<'a> Ear<'a> {
         self.whole_at = Instant::now(rt).ok();
     }
 
-    // How long it still waits for a ring until a whole is due, if a peer is behind. 0: a whole is due.
+    // How long it still waits for a ring until a whole is due. `None`: no peer is behind, and it waits without end. 0: a whole is due, as
+    // it is if none was sent yet or the clock can't be read.
     fn patience<R: Clock>(&self, rt: &R) -> Option<Duration> {
         if !self.is_behind {
             return None;
@@ -134,7 +137,7 @@ impl<'a> Ear<'a> {
         Some(pause.saturating_sub(passed))
     }
 
-    // Notes what the bell has said.
+    // Notes what the bell has said of members and peers. No contract says this: `EarState` is without it.
     fn note(&mut self, heard: Heard)
         ensures { self.new ≡ self.old }
     {
@@ -143,7 +146,8 @@ impl<'a> Ear<'a> {
         self.is_hurried = heard.is_behind && (self.is_hurried || heard.is_hurried);
     }
 
-    // Waits for a ring, within a round. `false`: the bell has ended, or a whole is due.
+    // Waits for a ring, notes what the bell says, and doesn't count the ring. `false`, in order: a whole is due, also where the bell has
+    // rung; the bell has ended with each ring heard, which is noted.
     fn hear_ring<R: Wait + Clock>(&mut self, rt: &R) -> bool
         ensures rings { self.new.rings ≡ self.old.rings }
         ensures ended { self.new.ended ≡ self.old.ended }
@@ -172,8 +176,8 @@ impl<'a, R: Wait + Clock> Bell<R> for Ear<'a> {
 
     ghost ended = { λ ear. ear.ended };
 
-    /// Waits for a ring. `false`: the round has ended, as one does that has heard 2^40 rings. An ear that rests has heard the last ring of its
-    /// round 10 milliseconds before, at least.
+    /// Waits for a ring, and counts it. `false`: the round has ended, since `end_round` was called, 2^40 rings were heard, the bell has
+    /// ended, or a whole is due. An ear that rests sleeps for 10 milliseconds before it waits, unless no ring was heard in this round.
     fn wait(&mut self, rt: &R) -> bool {
         if self.rests && self.heard > 0 {
             thread::sleep(rt, Duration::from_millis(REST_MILLIS));

@@ -1,4 +1,4 @@
-//! Desks for the sessions of a site, and the site's bell.
+//! Desks for the sessions of a site, and the ear for its bell.
 //!
 //! A [`PassDesk`] has asks answered by a pass of a site's desk, and drops the steps of a full journal once. A [`RingingDesk`] rings the
 //! site's bell at each answer. The thread that sends the site's changes hears the bell by an [`Ear`].
@@ -7,9 +7,7 @@
 mod ear;
 mod pass_desk;
 mod ringing_desk;
-mod site_bell;
 
 pub use ear::Ear;
 pub use pass_desk::PassDesk;
 pub use ringing_desk::RingingDesk;
-pub use site_bell::{Heard, SiteBell};

@@ -40,7 +40,7 @@ impl<'a, L: SiteLedger> PassDesk<'a, L> {
     }
 }
 
-// What the site answers, by this pass. The faults are those of a call.
+// What the site answers, by this pass. Errors are those of `SiteDesk::answer`, in its order; they leave the pass as it was.
 fn answer_by<L: SiteLedger, R: Wait>(
     rt: &R,
     desk: &SiteDesk<L>,
@@ -55,8 +55,8 @@ fn answer_by<L: SiteLedger, R: Wait>(
     Ok(answer)
 }
 
-// What the site answers, by this pass. Where its journal is full, the journal's steps are dropped
-// first.
+// What the site answers, by this pass. Where its journal is full, the journal's steps are dropped, and the site is asked once more.
+// `DeskDown`: another error of a call, out of memory for the drop, or the journal was full again. The pass then stays as it was.
 fn answer_with_room<L: SiteLedger, R: Wait>(
     rt: &R,
     desk: &SiteDesk<L>,
@@ -89,8 +89,8 @@ impl<'a, L: SiteLedger, R: Wait> Desk<R> for PassDesk<'a, L> {
 
     /// The site's answer. Where its journal is full, the journal's steps are dropped, and the site is asked once more.
     ///
-    /// `DeskDown`: out of memory, for the answer or for that; or the journal was full again, or is shorter than the pass has seen.
-    /// Nothing was asked.
+    /// `DeskDown`: out of memory, for the answer or for the drop; or the journal was full again, or is shorter than the pass has seen.
+    /// The ask was not done, and the pass is as before.
     fn ask(&mut self, rt: &R, asked: Ask) -> Result<Answer, DeskDown> {
         let answered = answer_with_room(rt, self.desk, &mut self.pass, &asked);
         drop(asked);

@@ -1,9 +1,9 @@
 ghost use Rattle.std.specs.Prelude.{◌≡◌};
 ghost use Rattle.pass_desk.specs.RingingDesks.{inner_desk};
 
-use crate::SiteBell;
 use replica::Command;
 use serve::{Desk, DeskDown};
+use site_desk::SiteBell;
 use status_report::{Answer, Ask};
 use std::sync::Wait;
 

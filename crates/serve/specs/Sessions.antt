@@ -49,8 +49,8 @@ pub record IsEndedByLast (s : SessionState) (messages : List Fields) (bytes : Li
   pub over : is_over s messages ≡ true
   pub in_piece : EndsInPiece before bytes
 
--- a session was served: the text is that of the messages of the bytes, up to a Logoff that the last piece completed, or to the end
--- of a reader that has ended with nothing left
+-- a session was served: the text is that of the messages of the bytes, up to one that ends the session and that the last piece
+-- completed, or to the end of a reader that has ended with nothing left
 pub record IsServed {D : Type 0} (Answers : D → Ask → Answer → D → Type 0) (s : SessionState) (d e : D) (ended : Bool) (left : Option (List ℕ)) (bytes text : List ℕ) : Type 0 where
   pub messages : List Fields
   pub rest : List ℕ

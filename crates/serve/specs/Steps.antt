@@ -120,7 +120,7 @@ pub record IsUnsaid {D : Type 0} (Answers : D → Ask → Answer → D → Type 
   pub taken : taken_new ≡ taken_old
   pub desk : (e ≡ d) ⊎ HasAnswered Answers r d e
 
--- where a fault breaks off a reaction
+-- what was asked and written of a reaction that a fault ends
 abbrev pub BreaksOff : {D : Type 0} → (D → Ask → Answer → D → Type 0) → (D → Ask → D → Type 0) → Reaction → D → D → Option (List ℕ) → Option (List ℕ) → ServeFault → Type 0
 BreaksOff Answers Refuses r d e taken_old taken_new Write = HasWrittenFront Answers r d e taken_old taken_new
 BreaksOff Answers Refuses r d e taken_old taken_new Memory = IsUnsaid Answers r d e taken_old taken_new

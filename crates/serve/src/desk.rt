@@ -24,7 +24,7 @@ pub trait Desk<R> {
 
     /// Answers an ask.
     ///
-    /// `DeskDown`: the desk gives no answer.
+    /// `DeskDown`: the desk gives no answer; `refuses` says what has become of the ask, which may have been done.
     fn ask(&mut self, rt: &R, ask: Ask) -> Result<Answer, DeskDown>
         ensures answered { IfOk result (λ answer. answers self.old ask answer self.new) }
         ensures refused { OnErr result (refuses self.old ask self.new) };

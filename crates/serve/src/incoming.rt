@@ -34,8 +34,9 @@ impl Incoming {
     }
 }
 
-// Reads once, and holds the bytes. Returns whether there were any. Errors: `Turns` if no read is
-// left, `Read`, `Memory`.
+// Reads once, at most 1,024 bytes, and holds them, which uses up one of the reads left. Returns `false`, and uses up none, where the
+// stream has ended. Errors, in order: `Turns`, if no read is left; `Read`, if the read fails; `Memory`, after which what is held is
+// unspecified.
 fn read_piece<S: Source>(reader: &mut S, incoming: &mut Incoming) -> Result<bool, ServeFault>
     requires reading { MayRead (S.failed reader.old) (S.ended reader.old) incoming.old }
     ensures come { HasCome (S.left reader.old) (S.left reader.new) incoming.old.feed.held
@@ -69,10 +70,11 @@ fn read_piece<S: Source>(reader: &mut S, incoming: &mut Incoming) -> Result<bool
     }
 }
 
-/// The client's next message, read as far as needed; `None` at the end of the client's stream.
+/// The client's next message, read as far as needed; `None` at the end of the client's stream. It may be called again only after a
+/// message (`reading`).
 ///
-/// Errors: `LineTooLong` and `TooManyFields` if the stream has them next; `Turns` if no read is
-/// left, and `Read` if one fails; `Memory`.
+/// Errors, each as it occurs: `LineTooLong` and `TooManyFields`, if the stream has them next; `Turns`, if no read is left; `Read`, if one
+/// fails; `Memory`.
 pub fn next_message<S: Source>(
     reader: &mut S,
     incoming: &mut Incoming,

@@ -4,9 +4,10 @@
 //! writes the replies, whatever the devices do.
 #![tactic(auto)]
 
-ghost use Rattle.std.specs.Prelude.{◌≡◌, ◌≤◌, ◌+◌, ◌↔◌, true, false, IfErr, OnOk, IsErrOf};
+ghost use Rattle.std.specs.Prelude.{◌≡◌, ◌≤◌, ◌+◌, false, IfErr, OnOk, IsErrOf};
 ghost use Rattle.ami_text.specs.Devices.{HasGiven, HasGivenUpTo};
 ghost use Rattle.serve.specs.Desks.{HasWorked};
+ghost use Rattle.serve.specs.Faults.{FailsWith};
 ghost use Rattle.serve.specs.Sessions.{HasCarried, IsLeftBy, IsServed};
 
 mod desk;
@@ -50,27 +51,26 @@ pub fn serve<R, S: Source, W: Sink, D: Desk<R>, V: SessionWatch<R>>(
     alloc: Global,
     reader: &mut S,
     writer: &mut W,
-    session: Session,
+    mut session: Session,
     desk: &mut D,
     watch: &mut V,
 ) -> Result<(), ServeFault>
     requires reader { S.failed reader.old ≡ false }
     requires writer { W.failed writer.old ≡ false }
 
-    // The session's text was written, for the bytes that were read and the desk's answers.
+    // The session's text was written, for the bytes that were read and the desk's answers; after a
+    // fault a prefix of it.
     ensures served { OnOk result (HasCarried (S.left reader.old) (S.left reader.new)
         (W.taken writer.old) (W.taken writer.new)
         (IsServed D.answers session desk.old desk.new (S.ended reader.new) (S.left reader.new))) }
-
-    // After a fault a prefix of the session's text was written.
     ensures left { IfErr result (λ fault. HasCarried (S.left reader.old) (S.left reader.new)
         (W.taken writer.old) (W.taken writer.new)
         (IsLeftBy D.answers D.refuses session desk.old desk.new fault)) }
 
     // `Read` and `Write` are returned exactly where their device has failed, and the third only
     // where its cause applies; the clauses above state the faults of the stream and of the desk.
-    ensures read { IsErrOf result ServeFault.Read ↔ (S.failed reader.new ≡ true) }
-    ensures write { IsErrOf result ServeFault.Write ↔ (W.failed writer.new ≡ true) }
+    ensures reader { FailsWith ServeFault.Read result (S.failed reader.new) }
+    ensures writer { FailsWith ServeFault.Write result (W.failed writer.new) }
     ensures turns { IsErrOf result ServeFault.Turns → (S.ended reader.new ≡ false)
         × HasGiven (S.left reader.old) (S.left reader.new) 1000000 }
 
@@ -80,13 +80,9 @@ pub fn serve<R, S: Source, W: Sink, D: Desk<R>, V: SessionWatch<R>>(
 
     // The desk has answered asks, and may have refused one more.
     ensures desk { HasWorked D.answers D.refuses desk.old desk.new }
-
-    // After `Ok` both devices work.
-    ensures works { OnOk result ((S.failed reader.new ≡ false) × (W.failed writer.new ≡ false)) }
 {
     messages_so_far();
     stream_of_two_pieces();
-    let mut session = session;
     greet(writer, &session).map_err(|_| ServeFault::Write)?;
     let mut incoming = Incoming::new(alloc);
     'messages: loop {

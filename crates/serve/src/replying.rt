@@ -41,8 +41,8 @@ pub fn greet<W: Sink>(writer: &mut W, session: &Session) -> Result<(), Failed>
     write_all(writer, b"\r\n")
 }
 
-// Asks the desk, and writes the reply with its answer. A report is the reply, and isn't copied. Errors:
-// `Write`, `DeskDown`, `Memory`.
+// Asks the desk, and writes the reply with its answer. A report is the reply, and isn't copied. Errors, in order: `DeskDown`, and nothing
+// was written; `Memory`, after the answer, and nothing was written; `Write`, after a prefix of the reply.
 fn answer_ask<R, W: Sink, D: Desk<R>>(
     rt: &R,
     alloc: Global,
@@ -68,8 +68,8 @@ fn answer_ask<R, W: Sink, D: Desk<R>>(
     }
 }
 
-// Performs a session's reaction to a message. Returns whether the session ends with it. Errors:
-// `Write`, `DeskDown`, `Memory`.
+// Performs a session's reaction to a message. Returns whether the session ends with it. Errors: `Write`, after a prefix of the reply; for
+// an ask those of `answer_ask`.
 fn perform<R, W: Sink, D: Desk<R>>(
     rt: &R,
     alloc: Global,
@@ -98,9 +98,10 @@ fn perform<R, W: Sink, D: Desk<R>>(
     }
 }
 
-/// Replies to a message. Returns whether the session ends with it.
+/// Replies to a message. Returns whether the session ends with it. `session` is then that after the message.
 ///
-/// Errors: `Write`, `DeskDown`, `Memory`.
+/// Errors, each as it occurs: `Memory`, before the ask or after its answer, and nothing was written; `DeskDown`, and nothing was written;
+/// `Write`, after a prefix of the reply. The session is then as before or after the message.
 pub fn answer_message<R, W: Sink, D: Desk<R>>(
     rt: &R,
     alloc: Global,

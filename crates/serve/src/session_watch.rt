@@ -11,5 +11,6 @@ pub trait SessionWatch<R> {
 pub struct NoWatch;
 
 impl<R> SessionWatch<R> for NoWatch {
+    // Does nothing.
     fn after_message(&mut self, _rt: &R, _session: &Session) {}
 }

@@ -6,8 +6,8 @@ use Rattle.serve.specs.Sessions.{IsLeftBy, IsServed}
 use Rattle.serve.specs.declared.serve_fault.ServeFault.{ServeFault}
 use Rattle.status_report.specs.declared.asks.Answer.{Answer}
 use Rattle.status_report.specs.declared.asks.Ask.{Ask}
-use Rattle.serving_clients.specs.declared.server_settings.SessionSettings.{SessionSettings}
-use Rattle.serving_clients.specs.declared.server_settings.TheConstants.{LOGIN_TRIES}
+use Rattle.serving_clients.specs.declared.session_settings.SessionSettings.{SessionSettings}
+use Rattle.serving_clients.specs.declared.session_settings.TheConstants.{LOGIN_TRIES}
 
 -- a session that begins by these settings
 abbrev pub session_of : SessionSettings → SessionState

@@ -9,10 +9,11 @@ use std::time::{Clock, Duration};
 // How long a thread waits after a failed accept, in milliseconds.
 const PAUSE_MILLIS: u64 = 20;
 
-// Waits for the next connection of a client, and returns it with the client's address. `None`: the site was stopped.
+// Waits for the next connection of a client, and returns it with the client's address. `None`: the site was stopped, which it finds when
+// a connection comes, and drops that: `Clients::stop` makes one.
 //
-// Where the system fails to accept, as with too many open files, it logs that once, with the site's number, and tries again every 20 ms.
-// It passes over a connection that the client has given up.
+// Where the system fails to accept, as with too many open files, it logs that once a call, with the site's number, and tries again every
+// 20 ms. It passes over a connection that the client has given up.
 pub(crate) fn accept<R: Wait + Clock>(
     rt: &R,
     alloc: Global,

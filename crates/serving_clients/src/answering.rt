@@ -13,7 +13,8 @@ use std::net::{Net, TcpListener, TcpStream};
 use std::sync::{Arc, Wait};
 use std::time::Clock;
 
-// Answers a client over this desk, but not at a site that was stopped.
+// Answers a client over this desk, but not at a site that was stopped. While it does, the connection is among those that a stop of the
+// site shuts down. Out of memory it logs that, and answers nothing.
 fn answer_one<R: Wait + Clock, D: Desk<R>>(
     rt: &R,
     alloc: Global,
@@ -34,7 +35,8 @@ fn answer_one<R: Wait + Clock, D: Desk<R>>(
     }
 }
 
-// Answers the client of this connection over this desk, once there is a place for it.
+// Answers the client of this connection over this desk, as `answer_one` does, once there is a place for it; if it must wait for one, it
+// logs that. Then closes the connection and gives the place back. Out of memory it logs that, and answers nothing.
 fn answer_at_a_place<R: Wait + Clock, D: Desk<R>>(
     rt: &R,
     alloc: Global,
@@ -75,7 +77,8 @@ fn answer_next<R: Wait + Clock, D: Desk<R>>(rt: &R, alloc: Global, clients: &Cli
 }
 
 /// Answers one client of a site after another over this desk, until the site takes no more, or was stopped. A client that comes while all
-/// places are taken waits for its turn. Returns whether this was the last thread of the site that answers.
+/// places are taken waits for its turn. At the end it wakes the next thread, if the site was stopped. Returns whether this was the last
+/// thread of the site that answers.
 pub fn answer_clients<
     R: Net<Listener = TcpListener, Stream = TcpStream> + Wait + Clock,
     D: Desk<R>,

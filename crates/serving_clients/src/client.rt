@@ -30,7 +30,7 @@ const LAST_WAIT_MILLIS: u64 = 200;
 // Into how many waits the time is divided in which a client may read too little.
 const WRITE_WAITS: u32 = 100;
 
-// Sets what a connection needs for its session.
+// Sets that what is written leaves at once, and how long a write waits, which is a hundredth of `write`. Error: the call that failed.
 fn prepare_stream(stream: &TcpStream, write: Duration) -> Result<(), NotPrepared> {
     if let Err(error) = stream.set_nodelay(true) {
         return Err(NotPrepared {
@@ -47,7 +47,7 @@ fn prepare_stream(stream: &TcpStream, write: Duration) -> Result<(), NotPrepared
     }
 }
 
-// Prepares a connection for its session, and returns the time at which that was done.
+// Prepares a connection for its session, and returns the time at which that was done. Error: the first call that failed.
 fn prepare<R: Clock>(
     rt: &R,
     stream: &TcpStream,
@@ -63,8 +63,8 @@ fn prepare<R: Clock>(
     }
 }
 
-// Reads and drops what a client still sends, until it closes, is silent, or has taken its time. What it has sent then: `sent`, and what was
-// read.
+// Reads and drops what a client still sends, until it closes, is silent for 0.2 seconds, or 2 seconds are over. Counts in `sent` the
+// messages that it read. Errors are those of the clock and the stream, silence too; what was read before is counted.
 fn drain<R: Wait + Clock>(rt: &R, stream: &TcpStream, sent: &mut MessageCount) -> io::Result<()> {
     let begun = Instant::now(rt)?;
     let mut reader = stream;
@@ -86,7 +86,7 @@ fn drain<R: Wait + Clock>(rt: &R, stream: &TcpStream, sent: &mut MessageCount) -
 }
 
 // Ends a stream so that the client can read all that was written. A stream that is closed over unread bytes discards what the client has
-// not read yet, so these bytes are read first, within a time. Returns how many messages the client has sent in all.
+// not read yet, so these bytes are read first, as `drain` does. Returns how many messages were read in all, with those of `sent`.
 fn close_gently<R: Wait + Clock>(rt: &R, stream: &TcpStream, sent: MessageCount) -> u64 {
     let mut sent = sent;
     if stream.shutdown(Shutdown::Write).is_ok() {
@@ -108,7 +108,8 @@ struct SessionEnd {
     has_no_tries: bool,
 }
 
-// What is logged of the end of a session, where this number of messages followed the last one that was answered.
+// What is logged of the end of a session, where `left` messages followed the last one that was answered. `None`: nothing, since the session
+// ended well or the connection broke.
 fn event_of(end: SessionEnd, settings: &SessionSettings, left: u64) -> Option<ClientEvent> {
     match (end.served, end.late) {
         (Ok(()), _) if end.has_no_tries => Some(ClientEvent::TriesOver),
@@ -126,7 +127,9 @@ fn event_of(end: SessionEnd, settings: &SessionSettings, left: u64) -> Option<Cl
     }
 }
 
-// Ends a session's stream, and logs why the session ended. A client to which a write failed reads nothing, or is gone: it isn't waited for.
+// Ends a session's stream, and logs why the session ended (`event_of`); where that is nothing, and the log is verbose, it logs that a
+// client left that had logged in. A client to which a write failed reads nothing, or is gone: its stream isn't ended here, nor is it waited
+// for.
 fn end_session<R: Wait + Clock>(
     rt: &R,
     log: &ClientLog<'_>,
@@ -145,7 +148,8 @@ fn end_session<R: Wait + Clock>(
     }
 }
 
-// The time that a client has not kept: that in which it must read, if it was given up for this, or else that of its source.
+// The time that a client has not kept: that in which it must read, if it was given up for this, or else that of its source. `None`: it has
+// kept both.
 fn late_of(has_given_up: bool, of_source: Option<Late>) -> Option<Late> {
     if has_given_up {
         Some(Late::Reading)
@@ -157,10 +161,11 @@ fn late_of(has_given_up: bool, of_source: Option<Late>) -> Option<Late> {
 /// Serves a client of a site over a desk: a session of these settings, from its greeting to its end, and then the stream's end. Where the
 /// connection can't be prepared there is no session, the desk stays as it is, and a line is logged.
 ///
-/// It returns once the session has ended, in whichever way. Logged are failed logins, clients that have not kept a time, and sessions that
-/// ended by a fault but that the connection broke; if the log is verbose, logins and ends too. Then the write side is shut down, and what
-/// the client still sends is read and dropped, so that it can read all replies: until it closes, is silent for 0.2 seconds, or 2 seconds
-/// are over (sessions are Asterisk's Manager Interface; the times are this project's own).
+/// It returns once the session has ended, in whichever way. It logs failed logins, sessions that ended with their last try to log in,
+/// clients that have not kept a time, and sessions that ended by another fault than a broken connection; if the log is verbose, logins and
+/// ends too. Unless a write has failed, the write side is then shut down, and what the client still sends is read and dropped, so that it
+/// can read all replies: until it closes, is silent for 0.2 seconds, or 2 seconds are over (sessions are Asterisk's Manager Interface; the
+/// times are this project's own).
 pub fn answer_client<'x, R: Wait + Clock, D: Desk<R>>(
     rt: &'x R,
     alloc: Global,

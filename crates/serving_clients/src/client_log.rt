@@ -47,6 +47,7 @@ pub(crate) enum ClientEvent {
 }
 
 impl fmt::Display for ClientEvent {
+    // The event's words in a line of the log, behind the client's address. Fails only as the formatter does.
     fn fmt<W: fmt::Write>(&self, f: &mut fmt::Formatter<W>) -> fmt::Result {
         match *self {
             ClientEvent::Waits => write!(f, "waits for a place"),
@@ -119,7 +120,7 @@ impl<'a> ClientLog<'a> {
         }
     }
 
-    // Logs an event.
+    // Logs an event, in one line with the site's number and the client's address.
     pub(crate) fn log<R: Wait>(&self, rt: &R, event: ClientEvent) {
         let (site, peer) = (self.site, self.peer);
         let line = format!(in self.alloc; "queue_sites: site {site}: client {peer}: {event}");
@@ -139,7 +140,7 @@ impl<'a> ClientLog<'a> {
     }
 }
 
-// What looks on at a client's session: it logs logins, and tells the client's source once somebody has logged in.
+// What looks on at a client's session: it logs logins, and sets the cell that the client's source reads once the client has logged in.
 #[derive(Drop)]
 pub(crate) struct ClientWatch<'l, 'c> {
     log: ClientLog<'l>,
@@ -171,6 +172,8 @@ impl<'l, 'c> ClientWatch<'l, 'c> {
 }
 
 impl<'l, 'c, R: Wait> SessionWatch<R> for ClientWatch<'l, 'c> {
+    // Counts a message that was answered. If a try to log in was used up by it, logs that a login failed. Once the client has logged in,
+    // sets the cell, and logs that if the log is verbose.
     fn after_message(&mut self, rt: &R, session: &Session) {
         self.answered = self.answered.saturating_add(1);
         let tries = session.tries();

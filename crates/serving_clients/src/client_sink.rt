@@ -35,7 +35,8 @@ impl Waiting {
         }
     }
 
-    // The stretch after one wait more, which has ended at this time. Where no wait has ended for as long as `limit` another one begins.
+    // The stretch after one wait more, which has ended at `now`. If the wait before it had ended `limit` ago or earlier, a new stretch
+    // begins.
     fn waited(self, now: Instant, limit: Duration) -> Waiting
         ensures goes_on { instant_nanos now - instant_nanos self.last < as_nanos limit
             → result ≡ record self { last = now } }
@@ -91,6 +92,7 @@ pub(crate) struct ClientSink<'a, R, W> {
 }
 
 impl<'a, R, W: Drop> Drop for ClientSink<'a, R, W> {
+    // Drops the writer; it owns nothing else.
     fn drop(self) {
         let ClientSink {
             rt: _,
@@ -104,7 +106,8 @@ impl<'a, R, W: Drop> Drop for ClientSink<'a, R, W> {
     }
 }
 
-// Writes once, and tries again where the write is interrupted.
+// Writes once, and tries again where the write is interrupted. Returns how many bytes were written. Errors: `Late` if the write waited in
+// vain; `Failed` if the writer failed, or all 1,000 tries were interrupted.
 fn write_once<W: Write>(writer: &mut W, bytes: &[u8]) -> Result<usize, StreamFault>
     ensures count { IfOk result (λ n. n ≤ length bytes.now) }
     ensures writer { WriteAppends (W.contents writer.old) (W.contents writer.new) result bytes.now }
@@ -145,7 +148,7 @@ impl<'a, R: Clock, W: Write> ClientSink<'a, R, W> {
         self.is_over
     }
 
-    // Counts bytes that the client has read. Once they are enough the stretch is over.
+    // Counts bytes that the client has read. Once they are 4,096 in a stretch it is over; no contract says this.
     fn count_read(&mut self, bytes: usize)
         ensures writer { self.new.writer ≡ self.old.writer }
         ensures failed { self.new.failed ≡ self.old.failed }
@@ -155,7 +158,7 @@ impl<'a, R: Clock, W: Write> ClientSink<'a, R, W> {
         }
     }
 
-    // Counts a wait. Where the clock can't be read the client is given up.
+    // Counts a wait. The client is given up if the stretch has lasted for the limit, or the clock can't be read; no contract says this.
     fn count_wait(&mut self)
         ensures writer { self.new.writer ≡ self.old.writer }
         ensures failed { self.new.failed ≡ self.old.failed }
@@ -172,8 +175,9 @@ impl<'a, R: Clock, W: Write> ClientSink<'a, R, W> {
         self.is_over = waiting.has_lasted(self.limit);
     }
 
-    // Writes until bytes are taken, the client is given up, or the writer fails. What is taken is counted, and so is each wait: a write that
-    // takes some of its bytes alone has waited too.
+    // Writes until a write doesn't wait in vain, and returns how many bytes that took. `Failed`: the client is given up, the writer
+    // fails, or 1,000 writes have waited in vain. Bytes and waits are counted: a write that takes only some of its bytes has waited too,
+    // and where the client is then given up the next write fails.
     fn write_in_time(&mut self, bytes: &[u8]) -> Result<usize, Failed>
         ensures count { IfOk result (λ n. n ≤ length bytes.now) }
         ensures writer { WriteAppends (W.contents self.old.writer) (W.contents self.new.writer)
@@ -207,6 +211,8 @@ impl<'a, R: Clock, W: Write> Sink for ClientSink<'a, R, W> {
 
     ghost failed = { λ s. s.failed };
 
+    // Writes as `write_in_time` does, but at once `Failed` where the client was given up before. The sink has failed after `Failed`, and
+    // where none of bytes that aren't empty was taken.
     fn write(&mut self, bytes: &[u8]) -> Result<usize, Failed> {
         if self.is_over {
             self.failed = true;

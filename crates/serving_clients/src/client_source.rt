@@ -33,6 +33,7 @@ pub(crate) struct ClientSource<'a, 'c, R, S> {
 }
 
 impl<'a, 'c, R, S> Drop for ClientSource<'a, 'c, R, S> {
+    // Drops nothing: what it has are copies and things that it has borrowed.
     fn drop(self) {
         let ClientSource {
             rt: _,
@@ -49,7 +50,8 @@ impl<'a, 'c, R, S> Drop for ClientSource<'a, 'c, R, S> {
     }
 }
 
-// Which time a client has not kept whose read waited for as long as it may.
+// Which time a client has not kept whose read waited for `wait`, as long as it may: the time to log in, if it hasn't logged in and that was
+// the shorter one; else that for which it may be silent.
 fn late_by(is_logged_in: bool, idle: Option<Duration>, wait: Option<Duration>) -> Late {
     if is_logged_in || wait == idle {
         Late::Silent
@@ -86,7 +88,8 @@ impl<'a, 'c, R: Clock, S: TimedRead> ClientSource<'a, 'c, R, S> {
         }
     }
 
-    // Reads once at this time, if there is time left: for as long as the client may be waited for then.
+    // Reads once at this time, for as long as the client may be waited for then. Errors, in order: `Some`, the time that the client has not
+    // kept; `None`, the stream failed.
     fn read_at(
         &self,
         is_logged_in: bool,
@@ -110,7 +113,8 @@ impl<'a, 'c, R: Clock, S: TimedRead> ClientSource<'a, 'c, R, S> {
         }
     }
 
-    // Reads once, and counts the messages that end in what was read.
+    // Reads once, and counts the messages that end in what was read. `Failed`: the clock can't be read, the client has not kept a time,
+    // which is then in `late`, or the stream failed.
     fn read_more(&mut self, piece: &mut [u8]) -> Result<usize, Failed>
         requires { self.old.failed ≡ false }
         ensures count { IfOk result (λ n. n ≤ length piece.new) }
@@ -157,6 +161,7 @@ impl<'a, 'c, R: Clock, S: TimedRead> Source for ClientSource<'a, 'c, R, S> {
 
     ghost failed = { λ s. s.failed };
 
+    // Reads as `read_more` does; 0 is the end, unless the piece is empty.
     fn read(&mut self, piece: &mut [u8]) -> Result<usize, Failed> {
         self.read_more(piece)
     }

@@ -1,10 +1,11 @@
-ghost use Rattle.std.specs.Prelude.{◌≡◌, ◌+◌};
+ghost use Rattle.std.specs.Prelude.{◌≡◌, ◌+◌, ◌≤◌, IfOk};
+ghost use Rattle.serving_clients.specs.declared.place_count.TheConstants.{MOST_PLACES};
 
-use crate::SessionSettings;
 use crate::places::Places;
 use crate::sessions::Sessions;
 use crate::tickets::Tickets;
-use dots::SiteId;
+use crate::{PlaceCount, SessionSettings};
+use dots::{Memory, SiteId};
 use event_log::EventLog;
 use std::alloc::Global;
 use std::net::{Net, TcpListener, TcpStream};
@@ -13,6 +14,17 @@ use std::time::Duration;
 
 // How long a connection to the site's own port may take, in milliseconds.
 const WAKE_MILLIS: u64 = 200;
+
+/// How the clients of a site are served (this project's own).
+#[derive(Clone, Copy)]
+pub struct ClientSettings<'a> {
+    /// The settings of their sessions.
+    pub session: &'a SessionSettings,
+    /// How many connections the site takes. `None`: any number.
+    pub connections: Option<u32>,
+    /// Where it is logged what happens to clients.
+    pub events: &'a Arc<EventLog, Global>,
+}
 
 /// The clients of a site: where they come in, how many are answered and how, and whether the site was stopped (this project's own).
 #[derive(Drop)]
@@ -28,13 +40,14 @@ pub struct Clients {
 
 /// How many threads answer the clients of a site that has this number of places. There is one more than places: it waits with the next
 /// client.
-pub fn answering_threads(places: u16) -> u32
-    ensures { result ≡ places + 1 }
+pub fn answering_threads(places: PlaceCount) -> u32
+    ensures number { result ≡ places + 1 }
+    ensures limit { result ≤ MOST_PLACES + 1 }
 {
-    u32::from(places) + 1
+    u32::from(places.get()) + 1
 }
 
-// Wakes a thread that waits for a client at this listener, by a connection to it.
+// Wakes a thread that waits for a client at this listener, by a connection to it, which may take 0.2 seconds. A failure is ignored.
 fn wake<R: Net<Listener = TcpListener, Stream = TcpStream>>(rt: &R, listener: &TcpListener) {
     if let Ok(own) = listener.local_addr() {
         let wait = Duration::from_millis(WAKE_MILLIS);
@@ -45,29 +58,30 @@ fn wake<R: Net<Listener = TcpListener, Stream = TcpStream>>(rt: &R, listener: &T
 impl Clients {
     ghost use Rattle.serving_clients.specs.Clients.{site_of};
 
-    /// The clients of the site of this number, which come in at this listener. `places` of them are answered at once, by
-    /// `answering_threads(places)` threads, each of which calls `answer_clients` once. With a number of `connections` that many are taken in
-    /// all. What happens to clients is added to `events`. It takes no memory.
+    /// The clients of the site of this number, which come in at this listener. `settings.session.places` of them are answered at once, by
+    /// one thread more, each of which calls `answer_clients` once. Error: `Memory`, and the listener is closed.
     pub fn new(
         alloc: Global,
         number: SiteId,
         listener: TcpListener,
-        settings: SessionSettings,
-        places: u16,
-        connections: Option<u32>,
-        events: Arc<EventLog, Global>,
-    ) -> Clients
-        ensures { site_of result ≡ number }
+        settings: &ClientSettings<'_>,
+    ) -> Result<Clients, Memory>
+        ensures { IfOk result (λ clients. site_of clients ≡ number) }
     {
-        Clients {
+        let Ok(events) = Arc::try_clone(settings.events) else {
+            drop(listener);
+            return Err(Memory);
+        };
+        let places = settings.session.places;
+        Ok(Clients {
             number,
             listener,
-            tickets: Tickets::new(connections),
-            places: Places::new(u32::from(places)),
+            tickets: Tickets::new(settings.connections),
+            places: Places::new(u32::from(places.get())),
             sessions: Sessions::new(alloc, answering_threads(places)),
-            settings,
+            settings: settings.session.copy(),
             events,
-        }
+        })
     }
 
     /// The number of the site.
@@ -82,8 +96,9 @@ impl Clients {
         &self.events
     }
 
-    /// Stops the site: it answers no further client, the connections of clients are shut down, and the threads that answer end in turn. No
-    /// reply leaves afterwards. Whoever finds that the site has failed calls it, perhaps again.
+    /// Stops the site: it answers no further client, the connections of clients are shut down, and a thread that waits for a client is
+    /// woken; each thread that ends wakes the next. No reply leaves afterwards. It may take 0.2 seconds. Whoever finds that the site has
+    /// failed calls it, perhaps again.
     pub fn stop<R: Net<Listener = TcpListener, Stream = TcpStream> + Wait>(&self, rt: &R) {
         self.sessions.stop(rt);
         wake(rt, &self.listener);

@@ -14,8 +14,10 @@ mod client_source;
 mod clients;
 mod deadlines;
 mod message_count;
+mod place_count;
 mod places;
 mod server_settings;
+mod session_settings;
 mod sessions;
 mod tickets;
 mod timed_read;
@@ -23,7 +25,7 @@ mod timed_read;
 pub use answering::answer_clients;
 pub use client::answer_client;
 pub use client_log::ClientLog;
-pub use clients::{Clients, answering_threads};
-pub use server_settings::{
-    IDLE_SECONDS, LOGIN_TRIES, PATIENCE_SECONDS, PLACES, ServerSettings, SessionSettings,
-};
+pub use clients::{ClientSettings, Clients, answering_threads};
+pub use place_count::{MOST_PLACES, PLACES, PlaceCount};
+pub use server_settings::{LAST_PORT, MOST_SERVED_SITES, ServerSettings, SettingsFault};
+pub use session_settings::{IDLE_SECONDS, LOGIN_TRIES, PATIENCE_SECONDS, SessionSettings};

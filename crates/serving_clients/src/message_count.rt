@@ -17,7 +17,7 @@ impl MessageCount {
         }
     }
 
-    // With the first `count` bytes of a piece more.
+    // The count after the client has sent the first `count` bytes of this piece too, or all of them if it has fewer.
     pub fn after(self, piece: &[u8], count: usize) -> MessageCount {
         let mut ended = self.ended;
         let mut next = self.next;

@@ -43,7 +43,7 @@ impl Line {
         self.left == 0 || self.next != turn
     }
 
-    // Takes a place in turn, if one is left.
+    // Takes a place for the next turn, and makes the turn after it the next. Where no place is left none is taken.
     fn take(&mut self)
         ensures { self.old.next + 1 < 2 ^ 64 → self.new ≡ record self.old {
           left = self.old.left - 1;
@@ -90,7 +90,7 @@ impl Places {
         self.line.lock(rt).try_take()
     }
 
-    // Waits until a place is left for this turn, and takes it.
+    // Waits until a place is left for this turn, takes it, and wakes those that wait, since there may be one for the next turn too.
     pub fn take_in_turn<R: Wait>(&self, rt: &R, turn: Turn) {
         let line = self.line.lock(rt);
         let mut line = self
@@ -101,7 +101,7 @@ impl Places {
         self.changed.notify_all();
     }
 
-    // Gives a place back.
+    // Gives a place back, and wakes those that wait.
     pub fn leave<R: Wait>(&self, rt: &R) {
         self.line.lock(rt).give();
         self.changed.notify_all();

@@ -1,116 +1,76 @@
-ghost use Rattle.std.specs.Prelude.{◌≡◌, ◌*◌, IsSomeAnd, None, false};
-ghost use Rattle.std.specs.Duration.{as_nanos};
-ghost use Rattle.serving_clients.specs.ServedClients.{session_of};
+ghost use Rattle.std.specs.Prelude.{◌≡◌, ◌⊎◌, ◌↔◌, ◌<◌, ◌≤◌, IfOk, IsErrOf};
+ghost use Rattle.serving_clients.specs.declared.server_settings.TheConstants.{LAST_PORT};
+ghost use Rattle.serving_clients.specs.declared.server_settings.TheConstants.{MOST_SERVED_SITES};
 
-use ami_session::Session;
-use dots::Text80;
+use crate::SessionSettings;
 use std::net::IpAddr;
-use std::time::Duration;
+use thiserror::Error;
 
-/// How long a client may take to log in, and may read too little, in seconds.
-pub const PATIENCE_SECONDS: u64 = 30;
+/// How many sites may be served at once.
+pub const MOST_SERVED_SITES: u16 = 8;
 
-/// With how many refused logins a session ends.
-pub const LOGIN_TRIES: u32 = 5;
+/// The last port that site 0 may have, so that there is one for each of eight sites.
+pub const LAST_PORT: u16 = 65_528;
 
-/// How many clients a site answers at once where nothing else is set.
-pub const PLACES: u16 = 4;
-
-/// How long a client may be silent where nothing else is set, in seconds.
-pub const IDLE_SECONDS: u64 = 3_600;
-
-/// Who may log in, how clients are greeted, and the times that they must keep (this project's own).
-#[derive(Drop)]
-pub struct SessionSettings {
-    /// Who may log in.
-    pub user: Text80,
-    /// The user's secret.
-    pub secret: Text80,
-    /// The line that greets a client. `None`: the line of `ami_session`.
-    pub greeting: Option<Text80>,
-    /// How long a client may take from its connection until it has logged in, whatever it sends.
-    pub login: Duration,
-    /// How long a client may be silent while the server waits for it. `None`: without end. 0: each session ends after its greeting.
-    pub idle: Option<Duration>,
-    /// A client is given up that reads fewer than 4,096 bytes in this time, while the server waits to write to it. A time under 100
-    /// microseconds counts as 100 microseconds.
-    pub write: Duration,
-    /// Whether clients that log in, and those of them that leave, are logged.
-    pub is_verbose: bool,
+/// Why sites can't be served by some settings, in order (this project's own).
+#[derive(Clone, Copy, Debug, PartialEq, Eq, Error)]
+pub enum SettingsFault {
+    /// The number of sites is not 1 to 8.
+    #[error("bad number of sites")]
+    Sites,
+    /// The port of site 0 is not 1 to 65,528.
+    #[error("bad port")]
+    Port,
 }
 
-// A copy of a text, if there is one.
-fn copy_of(text: &Option<Text80>) -> Option<Text80>
-    ensures { result ≡ text.now }
-{
-    match text {
-        None => None,
-        Some(text) => Some(text.copy()),
-    }
-}
-
-impl SessionSettings {
-    /// Sessions for this user and secret, with the greeting of `ami_session`. A client has 30 seconds to log in, may be silent for
-    /// `IDLE_SECONDS`, and may read too little for 30 seconds. They are not verbose.
-    pub fn new(user: Text80, secret: Text80) -> SessionSettings
-        ensures user { result.user ≡ user }
-        ensures secret { result.secret ≡ secret }
-        ensures greeting { result.greeting ≡ None }
-        ensures login { as_nanos result.login ≡ 30_000_000_000 }
-        ensures idle { IsSomeAnd result.idle (λ time.
-            as_nanos time ≡ IDLE_SECONDS * 1_000_000_000) }
-        ensures write { as_nanos result.write ≡ 30_000_000_000 }
-        ensures is_verbose { result.is_verbose ≡ false }
-    {
-        SessionSettings {
-            user,
-            secret,
-            greeting: None,
-            login: Duration::from_secs(PATIENCE_SECONDS),
-            idle: Some(Duration::from_secs(IDLE_SECONDS)),
-            write: Duration::from_secs(PATIENCE_SECONDS),
-            is_verbose: false,
-        }
-    }
-
-    /// A copy of the settings. It allocates nothing.
-    pub fn copy(&self) -> SessionSettings
-        ensures { result ≡ self.now }
-    {
-        SessionSettings {
-            user: self.user.copy(),
-            secret: self.secret.copy(),
-            greeting: copy_of(&self.greeting),
-            login: self.login,
-            idle: self.idle,
-            write: self.write,
-            is_verbose: self.is_verbose,
-        }
-    }
-
-    // The session of a client that has just connected.
-    pub(crate) fn session(&self) -> Session
-        ensures { result ≡ session_of self.now }
-    {
-        let session = Session::new(self.user.copy(), self.secret.copy()).with_tries(LOGIN_TRIES);
-        match &self.greeting {
-            None => session,
-            Some(greeting) => session.with_greeting(greeting.copy()),
-        }
-    }
-}
-
-/// Which sites a server serves, and where.
+/// Which sites a server serves, and where (this project's own).
 #[derive(Drop)]
 pub struct ServerSettings {
     /// The number of sites, 1 to 8.
     pub sites: u16,
-    /// How many clients a site answers at once, 1 to 64.
-    pub places: u16,
     /// The address at which all sites listen.
     pub address: IpAddr,
     /// The port of site 0, 1 to 65,528. Site 1 has the next port, and so on.
     pub port: u16,
     /// The settings of all sessions.
     pub session: SessionSettings,
+    pub ghost some: { 1 ≤ sites },
+    pub ghost most: { sites ≤ MOST_SERVED_SITES },
+    pub ghost first: { 1 ≤ port },
+    pub ghost last: { port ≤ LAST_PORT },
+}
+
+impl ServerSettings {
+    /// These settings. Errors, in order: `Sites`, `Port`.
+    pub fn new(
+        sites: u16,
+        address: IpAddr,
+        port: u16,
+        session: SessionSettings,
+    ) -> Result<ServerSettings, SettingsFault>
+        ensures sites { IfOk result (λ it. it.sites ≡ sites) }
+        ensures address { IfOk result (λ it. it.address ≡ address) }
+        ensures port { IfOk result (λ it. it.port ≡ port) }
+        ensures session { IfOk result (λ it. it.session ≡ session) }
+        ensures bad_sites { IsErrOf result SettingsFault.Sites
+            ↔ ((sites < 1) ⊎ (MOST_SERVED_SITES < sites)) }
+        ensures bad_port { IsErrOf result SettingsFault.Port
+            ↔ ((1 ≤ sites) × (sites ≤ MOST_SERVED_SITES)
+            × ((port < 1) ⊎ (LAST_PORT < port))) }
+    {
+        if sites < 1 || sites > MOST_SERVED_SITES {
+            drop(session);
+            return Err(SettingsFault::Sites);
+        }
+        if port < 1 || port > LAST_PORT {
+            drop(session);
+            return Err(SettingsFault::Port);
+        }
+        Ok(ServerSettings {
+            sites,
+            address,
+            port,
+            session,
+        })
+    }
 }

@@ -29,7 +29,7 @@ pub(crate) struct Sessions {
     answering: Mutex<Answering>,
 }
 
-// The place of the connection of this number.
+// The place of the connection of this number. `None`: it isn't served.
 fn place_of(served: &[Connection], number: u64) -> Option<usize>
     ensures { IfSome result (λ place. place < length served.now) }
 {
@@ -51,7 +51,8 @@ impl Answering {
         self.left == 0
     }
 
-    // Notes a connection that is served from now on, and returns its number. `None`: the site was stopped. Error: `Memory`.
+    // Notes a connection that is served from now on, and returns its number. `None`: the site was stopped. Error: `Memory`. In both cases
+    // nothing changes.
     fn begin(&mut self, stream: &Arc<TcpStream, Global>) -> Result<Option<u64>, Memory>
         ensures left { self.new.left ≡ self.old.left }
         ensures stopped { self.new.is_stopped ≡ self.old.is_stopped }
@@ -66,7 +67,7 @@ impl Answering {
         Ok(Some(number))
     }
 
-    // Forgets the connection of this number.
+    // Forgets the connection of this number, if it is served.
     fn end(&mut self, number: u64)
         ensures left { self.new.left ≡ self.old.left }
         ensures stopped { self.new.is_stopped ≡ self.old.is_stopped }
@@ -76,7 +77,7 @@ impl Answering {
         }
     }
 
-    // Stops the site, and shuts down the connections that are served: no reply leaves any more.
+    // Stops the site, and shuts down the connections that are served: no reply leaves any more. Failures are ignored.
     fn stop(&mut self)
         ensures { self.new ≡ record self.old { is_stopped = true } }
     {
@@ -105,7 +106,8 @@ impl Sessions {
         self.answering.lock(rt).end_one()
     }
 
-    // Notes a connection that is served from now on, and returns its number. `None`: the site was stopped. Error: `Memory`.
+    // Notes a connection that is served from now on, and returns its number. `None`: the site was stopped. Error: `Memory`. In both cases
+    // nothing changes.
     pub fn begin<R: Wait>(
         &self,
         rt: &R,
@@ -119,7 +121,8 @@ impl Sessions {
         self.answering.lock(rt).end(number);
     }
 
-    // Stops the site: its threads answer no further client, and the sessions of those that they serve end.
+    // Stops the site: its threads answer no further client, and the connections that they serve are shut down, by which the sessions end. A
+    // thread that waits for a client isn't woken.
     pub fn stop<R: Wait>(&self, rt: &R) {
         self.answering.lock(rt).stop();
     }

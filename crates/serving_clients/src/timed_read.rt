@@ -27,13 +27,15 @@ pub(crate) trait TimedRead {
     // `piece` there. A TCP stream says nothing of them.
     ghost gives: { Self → Option Duration → ℕ → List ℕ → Type 0 };
 
-    // Reads once, and waits no longer than `wait`; without end where that is `None`.
+    // Reads once, and waits no longer than `wait`; without end where that is `None`. Returns how many bytes were read; 0 is the end.
+    // Errors: `Late` if nothing came in time; `Failed` if the stream failed.
     fn read_within(&self, wait: Option<Duration>, piece: &mut [u8]) -> Result<usize, StreamFault>
         ensures count { IfOk result (λ n. n ≤ length piece.new) }
         ensures gives { IfOk result (λ n. gives self.now wait n piece.new) };
 }
 
-// Reads once, and tries again where the read is interrupted.
+// Reads once, and tries again where the read is interrupted. Errors: `Late` if nothing came in time; `Failed` if the stream failed, or all
+// 1,000 tries were interrupted.
 fn read_once(stream: &TcpStream, piece: &mut [u8]) -> Result<usize, StreamFault>
     ensures { IfOk result (λ n. n ≤ length piece.new) }
 {
@@ -74,6 +76,7 @@ impl<'a> TimedRead for TimedStream<'a> {
 
     ghost gives = { λ stream wait count piece. ⊤ };
 
+    // Reads as `read_once` does, and first sets how long reads wait, if that changes. `Failed` also where it can't be set, as for 0.
     fn read_within(&self, wait: Option<Duration>, piece: &mut [u8]) -> Result<usize, StreamFault> {
         if self.wait.get() != Some(wait) {
             if self.stream.set_read_timeout(wait).is_err() {

@@ -1,1 +1,2 @@
+pub mod KeepingPorts
 pub mod StoredPassDesks

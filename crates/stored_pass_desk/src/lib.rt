@@ -2,8 +2,10 @@
 //! journal within its limits, with a store or without.
 #![tactic(auto)]
 
+mod keeping_port;
 mod stored_pass_desk;
 mod upkeep;
 
+pub use keeping_port::KeepingPort;
 pub use stored_pass_desk::StoredPassDesk;
 pub use upkeep::{MOST_KEPT, MOST_ROW_BYTES, MOST_ROWS, Upkeep, save_all};

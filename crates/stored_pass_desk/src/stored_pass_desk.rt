@@ -42,7 +42,8 @@ impl<'a, S: StepStore, L: StoredLedger> StoredPassDesk<'a, S, L> {
     }
 }
 
-// What the site answers, by this pass, once the answer is durable. The faults are those of a call.
+// What the site answers, by this pass, once the answer is durable. Errors are those of `StoredDesk::call`; after `Unsaved` or `Memory` the
+// ask may have been done.
 fn answer_by<S: StepStore, L: StoredLedger, R: Wait>(
     rt: &R,
     desk: &StoredDesk<S, L>,
@@ -61,8 +62,9 @@ fn answer_by<S: StepStore, L: StoredLedger, R: Wait>(
     }
 }
 
-// What the site answers, by this pass, once the answer is durable. Where its journal is full, the journal's steps are dropped first, once
-// all are durable.
+// What the site answers, by this pass, once the answer is durable. Where its journal is full, all its steps are saved and dropped, and the
+// site is asked once more. `DeskDown`: another error of a call, an error of `StoredDesk::checkpoint`, or the journal was full again. The
+// ask may then have been done.
 fn answer_with_room<S: StepStore, L: StoredLedger, R: Wait>(
     rt: &R,
     desk: &StoredDesk<S, L>,
@@ -94,7 +96,7 @@ impl<'a, S: StepStore, L: StoredLedger, R: Wait> Desk<R> for StoredPassDesk<'a, 
 
     ghost refuses = { λ old asked new. (new ≡ old) ⊎ HasDoneUnanswered L.base old new };
 
-    /// The site's answer, once it is durable. Where the site's journal is full, the journal's steps are dropped, and the site is asked
+    /// The site's answer, once it is durable. Where the site's journal is full, all its steps are saved and dropped, and the site is asked
     /// once more.
     ///
     /// `DeskDown`: a commit of the store has failed; or the desk is out of memory, for the answer, its commit or the drop; or the journal was

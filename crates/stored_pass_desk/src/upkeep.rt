@@ -12,16 +12,19 @@ pub const MOST_KEPT: u64 = 67_108_864;
 /// A desk whose journal is kept within its limits (this project's own).
 pub trait Upkeep<R> {
     /// Drops the steps of the journal. A desk without a store does so only where the journal is full; one with a store saves them first.
-    /// Errors, in order: 1 `Unsaved`, where the store has failed; 2 `Memory`, and no step is dropped.
+    /// Errors, in order: 1 `Unsaved`, where the store has failed; 2 `Memory`, and no step is dropped; 3 `Unsaved`, where the commit
+    /// fails: the steps are dropped all the same. The contract says only which errors there are.
     fn drop_steps(&self, rt: &R) -> Result<(), DeskFault>
         ensures { IfErr result (λ fault.
             (fault ≡ DeskFault.Unsaved) ⊎ (fault ≡ DeskFault.Memory)) };
 
-    /// Drops the steps of the journal if they keep more than `MOST_KEPT` bytes beside themselves. If that fails, a later call does it.
+    /// Drops the steps of the journal if they keep more than `MOST_KEPT` bytes beside themselves; a desk with a store saves them first.
+    /// If there is no memory for that, a later call does it. An error isn't reported. No contract says this.
     fn limit_steps(&self, rt: &R);
 }
 
 impl<L: SiteLedger, R: Wait> Upkeep<R> for SiteDesk<L> {
+    // Drops them where the journal is full, so that of several threads that find it full one does so. `Memory` leaves all.
     fn drop_steps(&self, rt: &R) -> Result<(), DeskFault> {
         match self.checkpoint_if_full(rt) {
             Ok(_) => Ok(()),
@@ -29,16 +32,19 @@ impl<L: SiteLedger, R: Wait> Upkeep<R> for SiteDesk<L> {
         }
     }
 
+    // Drops them as `SiteDesk::checkpoint_above` does.
     fn limit_steps(&self, rt: &R) {
         let _ = self.checkpoint_above(rt, MOST_KEPT);
     }
 }
 
 impl<D: StepStore, L: StoredLedger, R: Wait> Upkeep<R> for StoredDesk<D, L> {
+    // Saves and drops them, full or not, with the errors of `StoredDesk::checkpoint`.
     fn drop_steps(&self, rt: &R) -> Result<(), DeskFault> {
         self.checkpoint(rt)
     }
 
+    // Saves and drops them as `StoredDesk::checkpoint_above` does.
     fn limit_steps(&self, rt: &R) {
         let _ = self.checkpoint_above(rt, MOST_KEPT);
     }
@@ -47,11 +53,12 @@ impl<D: StepStore, L: StoredLedger, R: Wait> Upkeep<R> for StoredDesk<D, L> {
 /// After how many rows since its base the store of a site gets a new base.
 pub const MOST_ROWS: u64 = 10_000;
 
-/// After how many bytes in these rows: 64 MiB.
+/// After how many bytes of rows since its base the store of a site gets a new base: 64 MiB.
 pub const MOST_ROW_BYTES: u64 = 67_108_864;
 
-/// Saves all that a site has done so far. If its store then has more than `MOST_ROWS` rows or `MOST_ROW_BYTES` bytes since its base, the site
-/// becomes the base. Errors, in order: 1 `Unsaved`, where the store has failed; 2 `Memory`, and a later call does it.
+/// Saves all that a site has done so far. If its store then has more than `MOST_ROWS` rows or `MOST_ROW_BYTES` bytes since its base, the
+/// site becomes the base, and the steps of its journal are dropped. Errors, in order: 1 those of `StoredDesk::settle_all`; 2 those of
+/// `StoredDesk::replace_base`. After `Memory` a later call does it. The contract says only which errors there are.
 pub fn save_all<D: StepStore, L: StoredLedger, R: Wait>(
     rt: &R,
     desk: &StoredDesk<D, L>,

@@ -1,0 +1,2 @@
+pub mod KeepingCalls
+pub mod PortCalls
