@@ -1,2 +1,2 @@
-pub mod KeepingCalls
 pub mod OnlyEnds
+pub mod TurnCalls

@@ -1,4 +1,3 @@
-pub mod KeepingPorts
 pub mod LaunchFaults
 pub mod LinkedJournals
 pub mod Tasks

@@ -5,7 +5,6 @@
 //! take their frames. The site ends when another site shows that its number or its store isn't right, or when its store fails.
 #![tactic(auto)]
 
-mod keeping_port;
 mod link_settings;
 mod linked_site;
 mod linked_site_fault;
@@ -22,4 +21,3 @@ pub use serving::{JOURNAL_STEPS, serve_linked_site};
 pub use site_end::{SiteEnd, StoredSiteEnd};
 pub use site_peers::EndReason;
 pub use stored_serving::serve_stored_linked_site;
-pub use tasks::MOST_PLACES;

@@ -1,4 +1,5 @@
-ghost use Rattle.std.specs.Prelude.{◌≡◌, IfOk};
+ghost use Rattle.std.specs.Prelude.{◌≡◌, ◌≤◌, IfOk, vec_len};
+ghost use Rattle.linked_site.specs.declared.link_settings.TheConstants.{MOST_PEERS};
 
 use crate::LinkedSiteFault;
 use link_keys::Key;
@@ -18,6 +19,7 @@ pub struct LinkSettings {
     pub starts: u64,
     /// The addresses of its peers, at most 64, each a host and a port, as `10.0.0.7:7038`. The site's own may be among them.
     pub peers: Vec<String>,
+    pub ghost few_peers: { vec_len peers ≤ MOST_PEERS },
 }
 
 impl LinkSettings {
@@ -27,6 +29,7 @@ impl LinkSettings {
         key: Key,
         peers: Vec<String>,
     ) -> Result<LinkSettings, LinkedSiteFault>
+        requires { vec_len peers ≤ MOST_PEERS }
         ensures key { IfOk result (λ links. links.key ≡ key) }
         ensures starts { IfOk result (λ links. links.starts ≡ 1) }
         ensures peers { IfOk result (λ links. links.peers ≡ peers) }

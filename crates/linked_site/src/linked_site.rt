@@ -1,16 +1,14 @@
 //! What the threads of a linked site share.
 use crate::{LinkSettings, LinkedSiteFault};
-use dots::Memory;
-use event_log::EventLog;
 use link_hello::{Card, queues_digest};
-use pass_desk::SiteBell;
 use peer_box::BOX_BYTES;
 use replica::Replica;
-use serving_clients::{Clients, SessionSettings};
+use serving_clients::{ClientSettings, Clients};
+use site_desk::SiteBell;
 use site_peers::{EndReason, LinkLog, PeerLinks, Ring, end_links};
 use std::alloc::Global;
 use std::net::{Net, TcpListener, TcpStream};
-use std::sync::{Arc, Wait};
+use std::sync::Wait;
 
 // The bell of a linked site, and its clients, whose sessions end with it.
 #[derive(Drop)]
@@ -20,10 +18,12 @@ pub(crate) struct SiteRing {
 }
 
 impl<R: Net<Listener = TcpListener, Stream = TcpStream> + Wait> Ring<R> for SiteRing {
+    // Rings the site's bell; the clients go on.
     fn ring(&self, rt: &R) {
         self.bell.ring(rt);
     }
 
+    // The connections of clients are shut down, and no further client is answered.
     fn end(&self, rt: &R) {
         self.clients.stop(rt);
         self.bell.end(rt);
@@ -38,43 +38,12 @@ pub(crate) struct LinkedSite {
     pub heard: TcpListener,
 }
 
-// How the clients of a site are served.
-#[derive(Clone, Copy)]
-pub(crate) struct ClientSettings<'s, 'e> {
-    pub session: &'s SessionSettings,
-    pub places: u16,
-    // How many connections the site takes, if it isn't any number.
-    pub connections: Option<u32>,
-    pub events: &'e Arc<EventLog, Global>,
-}
-
-// The clients of a site, who come in at this listener.
-fn clients_of(
-    alloc: Global,
-    settings: &ClientSettings<'_, '_>,
-    replica: &Replica,
-    listener: TcpListener,
-) -> Result<Clients, Memory> {
-    let Ok(events) = Arc::try_clone(settings.events) else {
-        drop(listener);
-        return Err(Memory);
-    };
-    Ok(Clients::new(
-        alloc,
-        replica.site(),
-        listener,
-        settings.session.copy(),
-        settings.places,
-        settings.connections,
-        events,
-    ))
-}
-
 impl LinkedSite {
-    // What the threads of this site share, which accepts clients and links at these listeners.
+    // What the threads of this site share, which accepts clients and links at these listeners. Errors, in order: `NoAddress`, `Memory`;
+    // all is dropped then.
     pub fn new(
         alloc: Global,
-        settings: &ClientSettings<'_, '_>,
+        settings: &ClientSettings<'_>,
         links: LinkSettings,
         replica: &Replica,
         clients: TcpListener,
@@ -89,7 +58,7 @@ impl LinkedSite {
                 return Err(LinkedSiteFault::NoAddress(error));
             }
         };
-        let Ok(clients) = clients_of(alloc, settings, replica, clients) else {
+        let Ok(clients) = Clients::new(alloc, replica.site(), clients, settings) else {
             drop(links);
             drop(heard);
             return Err(LinkedSiteFault::Memory);
@@ -136,7 +105,8 @@ impl LinkedSite {
         LinkLog::new(alloc, clients.events(), clients.number())
     }
 
-    // Ends the site for this reason, if it doesn't end yet.
+    // Does as `end_links`: ends the site for this reason, if it doesn't end yet, logs the first reason, and wakes its threads. Its
+    // clients are cut off.
     pub fn end<R: Net<Listener = TcpListener, Stream = TcpStream> + Wait>(
         &self,
         rt: &R,

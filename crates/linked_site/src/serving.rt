@@ -1,22 +1,19 @@
 //! A linked site without a store.
-ghost use Rattle.std.specs.Prelude.{◌≡◌, ◌≤◌, IfOk, Some, slice_get, vec_len};
+ghost use Rattle.std.specs.Prelude.{◌≡◌, IfOk, Some, slice_get, vec_len};
 ghost use Rattle.linked_site.specs.LinkedJournals.{IsLinkedJournal};
-ghost use Rattle.linked_site.specs.declared.link_settings.TheConstants.{MOST_PEERS};
-ghost use Rattle.linked_site.specs.declared.tasks.TheConstants.{MOST_PLACES};
 
-use crate::linked_site::{ClientSettings, LinkedSite};
+use crate::linked_site::LinkedSite;
 use crate::site_end::reason_of;
 use crate::tasks::{LinkedTask, tasks_of};
-use crate::{LinkSettings, LinkedSiteFault, MOST_PEERS, MOST_PLACES, SiteEnd};
-use event_log::EventLog;
+use crate::{LinkSettings, LinkedSiteFault, SiteEnd};
 use replica::Replica;
-use serving_clients::SessionSettings;
+use serving_clients::ClientSettings;
 use site_peers::EndReason;
 use site_threads::{SiteOutput, SiteTasks, run_sites};
 use std::alloc::Global;
 use std::net::{Net, TcpListener, TcpStream};
 use std::random::RandomSource;
-use std::sync::{Arc, Wait};
+use std::sync::Wait;
 use std::thread::Threads;
 use std::time::Clock;
 
@@ -39,7 +36,7 @@ fn end_of(ends: Vec<SiteOutput<Option<EndReason>>>) -> SiteEnd
     SiteEnd { reason, journal }
 }
 
-// Runs a site whose threads share this and do these tasks.
+// Runs a site until it ends. Errors: `NoThread`, `Memory`; the site is dropped, and no task has begun.
 fn run_site<
     R: Net<Listener = TcpListener, Stream = TcpStream>
         + Threads
@@ -50,28 +47,18 @@ fn run_site<
 >(
     rt: &R,
     alloc: Global,
-    replica: Replica,
-    shared: LinkedSite,
-    tasks: Vec<LinkedTask>,
+    site: SiteTasks<LinkedSite, LinkedTask>,
 ) -> Result<SiteEnd, LinkedSiteFault>
-    requires some { 1 ≤ vec_len tasks }
-    requires few { vec_len tasks ≤ 256 }
-    ensures { IfOk result (λ end. IsLinkedJournal replica end.journal) }
+    ensures { IfOk result (λ end. IsLinkedJournal site.replica end.journal) }
 {
     let mut sites = match Vec::with_capacity(alloc, 1) {
         Ok(sites) => sites,
         Err(_) => {
-            drop(replica);
-            drop(shared);
-            drop(tasks);
+            drop(site);
             return Err(LinkedSiteFault::Memory);
         }
     };
-    sites.push_reserved(SiteTasks {
-        replica,
-        shared,
-        tasks,
-    });
+    sites.push_reserved(site);
     match run_sites(rt, alloc, JOURNAL_STEPS, sites) {
         Ok(ends) => Ok(end_of(ends)),
         Err(fault) => Err(LinkedSiteFault::from(fault)),
@@ -79,17 +66,17 @@ fn run_site<
 }
 
 /// Serves Manager clients of a site at one listener, and links it to the sites of other processes: it accepts their links at the other
-/// listener, and dials each peer. At most `places` clients are answered at once; further ones wait, in order. Each answer rings the site's
-/// bell, and the site then sends its changes to all peers that are connected. Each peer gets a frame of all that the site knows when it
-/// connects. The steps of the site's journal are dropped when there are 1,000, and when they keep more than 64 MiB.
+/// listener, and dials each peer. At most `settings.session.places` clients are answered at once; further ones wait, in order. Each answer
+/// rings the site's bell, and the site then sends its changes to all peers that are connected. Each peer gets a frame of all that the site
+/// knows when it connects. The steps of the site's journal are dropped when there are 1,000, and when they keep more than 64 MiB.
 ///
 /// It returns when the site has ended. `TakenNumber`, `OlderCopy`: another site has refused it so. `NotMine`, `Conflict`: another site
-/// has sent a frame that this site refuses so. `Asked`: it has taken as many connections of clients as `sessions` says, and answered them.
-/// The reason is logged in one line, and sessions that go on are cut off. What happens to clients and links is added to `events`.
+/// has sent a frame that this site refuses so. `Asked`: it has taken `settings.connections` connections of clients, and answered them. The
+/// reason is logged in one line, and sessions that go on are cut off. What happens to clients and links is added to `settings.events`.
 ///
-/// Errors, in order: 1 `NoAddress`, if the system doesn't say at which address links are accepted; 2 `NoThread`, if a thread can't start;
-/// 3 `Memory`. No client is answered then, and no peer is dialed. (Sessions are Asterisk's Manager Interface; how sites are linked is
-/// this project's own.)
+/// Errors, in order: 1 `NoAddress`, if the system doesn't say at which address links are accepted; 2 `NoThread`, if a thread can't start; 3
+/// `Memory`, which may stand in place of 2. No client is answered then, and no peer is dialed. (Sessions are Asterisk's Manager Interface;
+/// how sites are linked is this project's own.)
 pub fn serve_linked_site<
     R: Net<Listener = TcpListener, Stream = TcpStream>
         + Threads
@@ -100,35 +87,31 @@ pub fn serve_linked_site<
 >(
     rt: &R,
     alloc: Global,
-    settings: &SessionSettings,
-    places: u16,
+    settings: &ClientSettings<'_>,
     links: LinkSettings,
     replica: Replica,
     clients: TcpListener,
     heard: TcpListener,
-    sessions: Option<u32>,
-    events: &Arc<EventLog, Global>,
 ) -> Result<SiteEnd, LinkedSiteFault>
-    requires places { places ≤ MOST_PLACES }
-    requires peers { vec_len links.peers ≤ MOST_PEERS }
     ensures journal { IfOk result (λ end. IsLinkedJournal replica end.journal) }
 {
-    let settings = ClientSettings {
-        session: settings,
-        places,
-        connections: sessions,
-        events,
-    };
     let peers = links.peers.len();
-    let shared = match LinkedSite::new(alloc, &settings, links, &replica, clients, heard) {
+    let shared = match LinkedSite::new(alloc, settings, links, &replica, clients, heard) {
         Ok(shared) => shared,
         Err(fault) => {
             drop(replica);
             return Err(fault);
         }
     };
-    match tasks_of(alloc, places, peers, false) {
-        Ok(tasks) => run_site(rt, alloc, replica, shared, tasks),
+    match tasks_of(alloc, settings.session.places, peers, false) {
+        Ok(tasks) => {
+            let site = SiteTasks {
+                replica,
+                shared,
+                tasks,
+            };
+            run_site(rt, alloc, site)
+        }
         Err(_) => {
             drop(replica);
             drop(shared);

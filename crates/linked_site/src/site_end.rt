@@ -24,7 +24,7 @@ pub struct StoredSiteEnd<D: Drop> {
     pub fault: Option<CommitFault>,
 }
 
-// Why a site has ended whose tasks gave these reasons.
+// Why a site has ended whose tasks gave these reasons: the first that one gave; `Asked` if none did.
 pub(crate) fn reason_of(outputs: &[Option<EndReason>]) -> EndReason {
     for output in outputs {
         if let Some(reason) = *output {

@@ -1,23 +1,20 @@
 //! A linked site with a store.
-ghost use Rattle.std.specs.Prelude.{◌≡◌, ◌≤◌, [], IfOk, IfSome, None, Some, slice_get, vec_len};
-ghost use Rattle.replica.specs.Site.{IsSameSite};
+ghost use Rattle.std.specs.Prelude.{◌≡◌, IfOk, IfSome, None, Some, slice_get, vec_len};
+ghost use Rattle.stored_threads.specs.NewStores.{IsNewStore};
 ghost use Rattle.stored_threads.specs.StoredEnds.{IsStoreOf};
 ghost use Rattle.linked_site.specs.LinkedJournals.{IsLinkedJournal};
-ghost use Rattle.linked_site.specs.declared.link_settings.TheConstants.{MOST_PEERS};
-ghost use Rattle.linked_site.specs.declared.tasks.TheConstants.{MOST_PLACES};
 
-use crate::linked_site::{ClientSettings, LinkedSite};
+use crate::linked_site::LinkedSite;
 use crate::site_end::reason_of;
 use crate::tasks::{LinkedTask, tasks_of};
-use crate::{JOURNAL_STEPS, LinkSettings, LinkedSiteFault, MOST_PEERS, MOST_PLACES, StoredSiteEnd};
-use event_log::EventLog;
+use crate::{JOURNAL_STEPS, LinkSettings, LinkedSiteFault, StoredSiteEnd};
 use replica::Replica;
-use serving_clients::SessionSettings;
+use serving_clients::ClientSettings;
 use site_peers::EndReason;
 use std::alloc::Global;
 use std::net::{Net, TcpListener, TcpStream};
 use std::random::RandomSource;
-use std::sync::{Arc, Wait};
+use std::sync::Wait;
 use std::thread::Threads;
 use std::time::Clock;
 use stored_desk::{CommitFault, StepStore};
@@ -52,7 +49,8 @@ fn end_of<D: StepStore>(ends: Vec<StoredSiteOutput<D, Option<EndReason>>>) -> St
     }
 }
 
-// Runs a site over its store whose threads share this and do these tasks.
+// Runs a site over its store, which has no step since the replica, until it ends. Errors: `NoThread`, `Memory`; the store is dropped, and
+// no task has begun.
 fn run_site<
     R: Net<Listener = TcpListener, Stream = TcpStream>
         + Threads
@@ -64,41 +62,26 @@ fn run_site<
 >(
     rt: &R,
     alloc: Global,
-    replica: Replica,
-    store: D,
-    shared: LinkedSite,
-    tasks: Vec<LinkedTask>,
+    site: StoredSiteTasks<D, LinkedSite, LinkedTask>,
 ) -> Result<StoredSiteEnd<D>, LinkedSiteFault>
 where
     D::Group: Send,
     D::Base: Send,
-    requires some { 1 ≤ vec_len tasks }
-    requires few { vec_len tasks ≤ 256 }
-    requires holds { D.holds store [] }
-    requires keeps { D.keeps store [] }
-    requires begun { IsSameSite (D.begun store) replica }
-    ensures journal { IfOk result (λ end. IsLinkedJournal replica end.journal) }
+    requires { IsNewStore D.holds D.keeps D.begun site.replica site.store }
+    ensures journal { IfOk result (λ end. IsLinkedJournal site.replica end.journal) }
     ensures stored { IfOk result (λ end. IfSome end.store (λ store.
-        IsStoreOf D.holds D.keeps D.begun replica end.fault store)) }
+        IsStoreOf D.holds D.keeps D.begun site.replica end.fault store)) }
     ensures lost { IfOk result (λ end. end.store ≡ None
         → end.fault ≡ Some CommitFault.Other) }
 {
     let mut sites = match Vec::with_capacity(alloc, 1) {
         Ok(sites) => sites,
         Err(_) => {
-            drop(replica);
-            drop(store);
-            drop(shared);
-            drop(tasks);
+            drop(site);
             return Err(LinkedSiteFault::Memory);
         }
     };
-    sites.push_reserved(StoredSiteTasks {
-        replica,
-        store,
-        shared,
-        tasks,
-    });
+    sites.push_reserved(site);
     match run_stored_sites(rt, alloc, JOURNAL_STEPS, sites) {
         Ok(ends) => Ok(end_of(ends)),
         Err(fault) => Err(LinkedSiteFault::from(fault)),
@@ -126,38 +109,25 @@ pub fn serve_stored_linked_site<
 >(
     rt: &R,
     alloc: Global,
-    settings: &SessionSettings,
-    places: u16,
+    settings: &ClientSettings<'_>,
     links: LinkSettings,
     replica: Replica,
     store: D,
     clients: TcpListener,
     heard: TcpListener,
-    sessions: Option<u32>,
-    events: &Arc<EventLog, Global>,
 ) -> Result<StoredSiteEnd<D>, LinkedSiteFault>
 where
     D::Group: Send,
     D::Base: Send,
-    requires places { places ≤ MOST_PLACES }
-    requires peers { vec_len links.peers ≤ MOST_PEERS }
-    requires holds { D.holds store [] }
-    requires keeps { D.keeps store [] }
-    requires begun { IsSameSite (D.begun store) replica }
+    requires { IsNewStore D.holds D.keeps D.begun replica store }
     ensures journal { IfOk result (λ end. IsLinkedJournal replica end.journal) }
     ensures stored { IfOk result (λ end. IfSome end.store (λ store.
         IsStoreOf D.holds D.keeps D.begun replica end.fault store)) }
     ensures lost { IfOk result (λ end. end.store ≡ None
         → end.fault ≡ Some CommitFault.Other) }
 {
-    let settings = ClientSettings {
-        session: settings,
-        places,
-        connections: sessions,
-        events,
-    };
     let peers = links.peers.len();
-    let shared = match LinkedSite::new(alloc, &settings, links, &replica, clients, heard) {
+    let shared = match LinkedSite::new(alloc, settings, links, &replica, clients, heard) {
         Ok(shared) => shared,
         Err(fault) => {
             drop(replica);
@@ -165,8 +135,16 @@ where
             return Err(fault);
         }
     };
-    match tasks_of(alloc, places, peers, true) {
-        Ok(tasks) => run_site(rt, alloc, replica, store, shared, tasks),
+    match tasks_of(alloc, settings.session.places, peers, true) {
+        Ok(tasks) => {
+            let site = StoredSiteTasks {
+                replica,
+                store,
+                shared,
+                tasks,
+            };
+            run_site(rt, alloc, site)
+        }
         Err(_) => {
             drop(replica);
             drop(store);

@@ -25,8 +25,8 @@ const LOOKS: u32 = 80;
 
 const LOOK_MILLIS: u64 = 50;
 
-// Waits until a frame of each peer was taken, for at most 4 seconds, or until the site ends. So a site whose store is an older copy
-// mostly finds that out before it makes adds anew that its store lacks.
+// Waits until frames of as many sites were taken as it dials peers, itself not counted, for at most 4 seconds, or until the site
+// ends. So a site whose store is an older copy mostly finds that out before it makes adds anew that its store lacks.
 fn await_peers<R: Wait + Clock>(rt: &R, site: &LinkedSite) {
     let pause = Duration::from_millis(LOOK_MILLIS);
     for _ in 0..LOOKS {
@@ -36,7 +36,8 @@ fn await_peers<R: Wait + Clock>(rt: &R, site: &LinkedSite) {
     }
 }
 
-// Answers the clients of a site by this pass, once a frame of each peer was taken, or after 4 seconds.
+// Answers the clients of a site by this pass, as `answer` does, once `await_peers` has returned. Each answer rings the site's
+// bell, and its reply leaves once its step is durable. Gives the pass back.
 fn answer_by<
     D: StepStore,
     L: StoredLedger,
@@ -50,7 +51,7 @@ fn answer_by<
     ringing.into_inner().into_pass()
 }
 
-// Makes the frames of a site by this pass.
+// Makes the frames of a site by this pass, as `spread_news` does, until the site's bell has ended; then the site ends.
 fn spread_by<
     D: StepStore,
     L: StoredLedger,
@@ -62,7 +63,7 @@ fn spread_by<
     spread_news(rt, alloc, site, desk, port);
 }
 
-// Hears the peers of a site by this pass.
+// Hears the peers of a site by this pass, as `hear` does, until the site ends.
 fn hear_by<
     D: StepStore,
     L: StoredLedger,
@@ -74,7 +75,7 @@ fn hear_by<
     hear(rt, alloc, site, desk, port);
 }
 
-// Logs why a commit of a site's store has failed, and ends the site.
+// Logs why a commit of a site's store has failed, if the desk knows, and ends the site as `StoreFailed`.
 fn end_failed<
     D: StepStore,
     L: StoredLedger,
@@ -89,7 +90,8 @@ fn end_failed<
     site.end(rt, alloc, EndReason::StoreFailed);
 }
 
-// Saves every 50 ms what the site has taken, until the site ends. Where the store has failed, it ends the site.
+// Saves what the site has done, and gives its store a new base if one is due, 50 ms after the save before, until the site ends;
+// then it saves no more. Out of memory, it leaves that to the next save. If the store has failed, it ends the site and returns.
 fn save_to_the_end<
     D: StepStore,
     L: StoredLedger,
@@ -111,6 +113,7 @@ impl<R: Net<Listener = TcpListener, Stream = TcpStream> + Wait + Clock + RandomS
     LinkedSite,
     R,
 > for LinkedTask {
+    // The output is why the site ends, if it does by then.
     fn run<D: StepStore, L: StoredLedger>(
         self,
         rt: &R,

@@ -1,17 +1,14 @@
 //! What the threads of a linked site do.
-ghost use Rattle.std.specs.Prelude.{◌≡◌, ◌+◌, ◌*◌, ◌≤◌, IfOk, vec_capacity, vec_len};
+ghost use Rattle.std.specs.Prelude.{◌≡◌, ◌≤◌, IfOk, vec_capacity, vec_len};
 ghost use Rattle.linked_site.specs.Tasks.{tasks_for};
 ghost use Rattle.linked_site.specs.declared.link_settings.TheConstants.{MOST_PEERS};
 
 use crate::MOST_PEERS;
 use dots::Memory;
-use serving_clients::answering_threads;
+use serving_clients::{PlaceCount, answering_threads};
 use site_peers::EndReason;
 use site_threads::TaskOutput;
 use std::alloc::Global;
-
-/// How many clients a site may answer at once.
-pub const MOST_PLACES: u16 = 64;
 
 // How many more threads accept links than there are peers, so that connections that say nothing don't keep out a peer.
 const MORE_HEARING: usize = 4;
@@ -40,19 +37,20 @@ impl TaskOutput for LinkedTask {
     ghost gives = { λ task site names old output new. ⊤ };
 }
 
-// The tasks of a site with this number of places and of peers. With a store one `saves`.
+// The tasks of a site with this number of places and of peers. With a store one `saves`. It fails only when out of
+// memory.
 pub(crate) fn tasks_of(
     alloc: Global,
-    places: u16,
+    places: PlaceCount,
     peers: usize,
     saves: bool,
 ) -> Result<Vec<LinkedTask>, Memory>
     requires { peers ≤ MOST_PEERS }
     ensures tasks { IfOk result (λ tasks. tasks.items ≡ tasks_for places peers saves) }
     ensures some { IfOk result (λ tasks. 1 ≤ vec_len tasks) }
-    ensures few { IfOk result (λ tasks. vec_len tasks ≤ places + 2 * peers + 7) }
+    ensures few { IfOk result (λ tasks. vec_len tasks ≤ 256) }
 {
-    let number = usize::from(places) + 2 * peers + MORE_HEARING + 3;
+    let number = usize::from(places.get()) + 2 * peers + MORE_HEARING + 3;
     let mut tasks = Vec::with_capacity(alloc, number)?;
     'answering: for _i in 0..answering_threads(places) {
         tasks.push_reserved(LinkedTask::Answer);

@@ -3,7 +3,6 @@ ghost use Rattle.std.specs.Prelude.{◌≡◌};
 ghost use Rattle.serving_clients.specs.Answering.{HasAnsweredClients};
 ghost use Rattle.site_pumps.specs.Calls.{HasCalled};
 
-use crate::keeping_port::KeepingPort;
 use crate::linked_site::LinkedSite;
 use crate::tasks::LinkedTask;
 use dots::Memory;
@@ -19,7 +18,7 @@ use std::net::{Net, TcpListener, TcpStream};
 use std::random::RandomSource;
 use std::sync::Wait;
 use std::time::{Clock, Duration};
-use stored_pass_desk::Upkeep;
+use stored_pass_desk::{KeepingPort, Upkeep};
 
 // How long the thread that makes frames waits after a fault, in milliseconds.
 const PAUSE_MILLIS: u64 = 20;
@@ -38,8 +37,8 @@ pub(crate) fn answer<R: Net<Listener = TcpListener, Stream = TcpStream> + Wait +
     }
 }
 
-// Waits after a fault of the thread that makes frames, or until the site ends. If it doesn't end the bell rings, so that what it had to
-// make is made; but not where the site has used up its frame numbers.
+// Waits for 20 ms after a fault of the thread that makes frames, or until the site ends. If it doesn't end the bell rings, so that what
+// it had to make is made; but not where the site has used up its frame numbers.
 fn recover<R: Wait + Clock>(rt: &R, site: &LinkedSite, fault: DeskFault) {
     let pause = Duration::from_millis(PAUSE_MILLIS);
     let ends = site.links.ending().wait_within(rt, pause);
@@ -50,7 +49,8 @@ fn recover<R: Wait + Clock>(rt: &R, site: &LinkedSite, fault: DeskFault) {
     }
 }
 
-// Makes the frames of a site by this port at each ring of its bell, and hands them to these outboxes, until the bell has ended.
+// Makes the frames of a site by this port at each ring of its bell, and hands them to these outboxes, until the bell has ended. After a
+// fault it does as `recover`, and goes on.
 fn spread_to_the_end<R: Wait + Clock, P: Port<R>>(
     rt: &R,
     site: &LinkedSite,
@@ -74,7 +74,7 @@ fn spread_to_the_end<R: Wait + Clock, P: Port<R>>(
     unreachable!()
 }
 
-// The outboxes of a site's peers. While it is out of memory it tries again.
+// The outboxes of a site's peers. While it is out of memory it tries again, each 20 ms. `None`: the site ended before there was memory.
 fn outboxes_of<'s, R: Wait + Clock>(
     rt: &R,
     alloc: Global,
@@ -93,7 +93,8 @@ fn outboxes_of<'s, R: Wait + Clock>(
     unreachable!()
 }
 
-// Makes the frames of a site by this port until its bell has ended, and then ends the site, unless it ends already. Gives the port back.
+// Makes the frames of a site by this port until its bell has ended, and then ends the site as `Asked`, unless it ends already. Makes
+// none if the site ends before there is memory for the outboxes. The journal is kept within its limits. Gives the port back.
 pub(crate) fn spread_news<
     R: Net<Listener = TcpListener, Stream = TcpStream> + Wait + Clock,
     P: Port<R>,
@@ -118,7 +119,8 @@ pub(crate) fn dial<
     dial_peer(rt, alloc, &site.links, site.log(alloc), place);
 }
 
-// Accepts one link after another, and lets the site take the frames by this port, until the site ends. Gives the port back.
+// Accepts one link after another, and lets the site take the frames by this port, until the site ends. The journal is kept within its
+// limits. Gives the port back.
 pub(crate) fn hear<
     R: Net<Listener = TcpListener, Stream = TcpStream> + Wait + Clock + RandomSource,
     P: Port<R>,
@@ -132,7 +134,7 @@ pub(crate) fn hear<
     keeping.into_inner()
 }
 
-// Answers the clients of a site by this pass.
+// Answers the clients of a site without a store by this pass, as `answer` does. Each answer rings the site's bell. Gives the pass back.
 fn answer_by<L: SiteLedger, R: Net<Listener = TcpListener, Stream = TcpStream> + Wait + Clock>(
     rt: &R,
     alloc: Global,
@@ -147,7 +149,7 @@ fn answer_by<L: SiteLedger, R: Net<Listener = TcpListener, Stream = TcpStream> +
     ringing.into_inner().into_pass()
 }
 
-// Makes the frames of a site by this pass.
+// Makes the frames of a site without a store by this pass, as `spread_news` does, until the site's bell has ended; then the site ends.
 fn spread_by<L: SiteLedger, R: Net<Listener = TcpListener, Stream = TcpStream> + Wait + Clock>(
     rt: &R,
     alloc: Global,
@@ -161,7 +163,7 @@ fn spread_by<L: SiteLedger, R: Net<Listener = TcpListener, Stream = TcpStream> +
     spread_news(rt, alloc, site, desk, port);
 }
 
-// Hears the peers of a site by this pass.
+// Hears the peers of a site without a store by this pass, as `hear` does, until the site ends.
 fn hear_by<
     L: SiteLedger,
     R: Net<Listener = TcpListener, Stream = TcpStream> + Wait + Clock + RandomSource,
@@ -176,6 +178,7 @@ impl<R: Net<Listener = TcpListener, Stream = TcpStream> + Wait + Clock + RandomS
     LinkedSite,
     R,
 > for LinkedTask {
+    // A site without a store has nothing to save. The output is why the site ends, if it does by then.
     fn run<L: SiteLedger>(
         self,
         rt: &R,

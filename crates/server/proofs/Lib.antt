@@ -1,6 +1,5 @@
 pub mod FrameLemmas
 pub mod ListeningLemmas
 pub mod PlaceLemmas
-pub mod PortCalls
 pub mod ServedSites
 pub mod ServedStores

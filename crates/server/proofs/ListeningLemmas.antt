@@ -1,11 +1,16 @@
 -- The lines of sites that listen.
-use Rattle.std.proofs.Common.{◌≡◌, ◌∙◌, ◌+◌, ◌<◌, ◌≤◌, ℕ, zero, suc, List, [], ◌++◌, Option, refl, sym, ap, subst, append_assoc, append-nil, ⊎_elim, arith}
+use Rattle.std.proofs.Common.{◌≡◌, ◌∙◌, ◌+◌, ◌<◌, ◌≤◌, ℕ, zero, suc, List, [], ◌++◌, Option, Result, Err, Ok, OnErr, refl, sym, ap, subst, append_assoc, append-nil, ⊎_elim, arith}
 use Rattle.std.proofs.lemmas.Bool.{cases_lt}
 use Rattle.std.specs.Io.KnownBytes.{Appends}
 use Rattle.std.specs.declared.net.ip_addr.IpAddr.{IpAddr}
 use Rattle.ami_text.proofs.Taking.{taken_grows}
 use Rattle.ami_text.specs.Devices.{HasTaken}
 use Rattle.server.specs.Listening.{listening_line, listening_lines}
+
+-- whatever the result is
+pub at_err : {T E : Type 0} (r : Result T E) (P : Type 0) → P → OnErr r P
+at_err (Ok x) P holds = tt
+at_err (Err e) P holds = holds
 
 -- the lines of some sites stand in front of those of all
 lines_front : (address : IpAddr) (port sites site : ℕ) → site ≤ sites
@@ -43,3 +48,8 @@ next_begun address port sites site before now after line low written is begun =
           ∙ append_assoc (some ++ begun.front) begun.rest all.0;
       taken = taken_grows before now after some begun.front written begun.taken;
     }
+
+-- all were written, whatever the result is
+pub all_written : {T E : Type 0} (r : Result T E) (address : IpAddr) (port sites : ℕ) (before after : Option (List ℕ))
+    → Appends before after (listening_lines address port sites) → OnErr r (HasTaken before after (listening_lines address port sites))
+all_written r address port sites before after written = at_err r _ (some_written address port sites sites before after (omega arith) written)

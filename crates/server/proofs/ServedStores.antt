@@ -2,10 +2,11 @@
 use Rattle.std.specs.List.{All}
 use Rattle.std.proofs.Common.{◌≡◌, ◌∙◌, ◌<◌, ℕ, List, ap, arith, length, subst, sym}
 use Rattle.std.proofs.lemmas.Option.{get_or_from_slice_get, slice_get_within}
-use Rattle.replica.specs.Site.{IsSameSite, SiteState}
+use Rattle.replica.specs.Site.{SiteState}
 use Rattle.site_desk.specs.Passes.{PassState}
 use Rattle.site_journal.specs.declared.step.Step.{Step}
 use Rattle.launcher.specs.Places.{AtEach}
+use Rattle.stored_threads.specs.NewStores.{IsNewStore}
 use Rattle.stored_threads.specs.StoredEnds.{HaveStoredEnds}
 use Rattle.stored_threads.specs.declared.stored_site_tasks.StoredSiteOutput.{StoredSiteOutput}
 use Rattle.stored_threads.specs.declared.stored_site_tasks.StoredSiteTasks.{StoredSiteTasks}
@@ -17,14 +18,14 @@ use Rattle.server.specs.declared.stored_working.StoredSiteTask.{StoredSiteTask}
 use Rattle.server.proofs.ServedSites.{got_within}
 
 -- what holds of all starts holds of that of a site
-pub of_its_start : {D : Type 0} (P : StoredStart D → Type 0) (starts : List (StoredStart D)) (place : ℕ) (site : StoredSiteTasks D StoredSite StoredSiteTask) (is : HasItsStart starts place site) → All P starts → P is.start
+of_its_start : {D : Type 0} (P : StoredStart D → Type 0) (starts : List (StoredStart D)) (place : ℕ) (site : StoredSiteTasks D StoredSite StoredSiteTask) (is : HasItsStart starts place site) → All P starts → P is.start
 of_its_start P starts place site is all = subst P (get_or_from_slice_get starts place is.start is.start is.stands) (all place is.start (slice_get_within starts place is.start is.stands))
 
--- the store of a site begins as the site, if that of each start does
-pub begun_by_start : {D : Type 0} (begun : D → SiteState) (starts : List (StoredStart D)) (place : ℕ) (site : StoredSiteTasks D StoredSite StoredSiteTask) → HasItsStart starts place site
-    → All (λ (s : StoredStart D). IsSameSite (begun s.store) s.replica) starts → IsSameSite (begun site.store) site.replica
-begun_by_start {D} begun starts place site is all = subst (λ (r : SiteState). IsSameSite (begun site.store) r) (sym is.replica_is)
-    (subst (λ (s : D). IsSameSite (begun s) is.start.replica) (sym is.store_is) (of_its_start (λ (s : StoredStart D). IsSameSite (begun s.store) s.replica) starts place site is all))
+-- the store of a site is new, if that of each start is
+pub new_by_start : {D : Type 0} (Holds Keeps : D → List Step → Type 0) (begun : D → SiteState) (starts : List (StoredStart D)) (place : ℕ) (site : StoredSiteTasks D StoredSite StoredSiteTask) → HasItsStart starts place site
+    → All (λ (s : StoredStart D). IsNewStore Holds Keeps begun s.replica s.store) starts → IsNewStore Holds Keeps begun site.replica site.store
+new_by_start {D} Holds Keeps begun starts place site is all = subst (λ (r : SiteState). IsNewStore Holds Keeps begun r site.store) (sym is.replica_is)
+    (subst (λ (s : D). IsNewStore Holds Keeps begun is.start.replica s) (sym is.store_is) (of_its_start (λ (s : StoredStart D). IsNewStore Holds Keeps begun s.replica s.store) starts place site is all))
 
 -- each site that has ended is that of its start
 pub served_ends : {D O : Type 0} (Gives : StoredSiteTask → ℕ → List (List ℕ) → PassState → O → PassState → Type 0) (Holds Keeps : D → List Step → Type 0) (begun : D → SiteState)

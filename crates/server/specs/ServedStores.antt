@@ -1,7 +1,6 @@
 -- What served sites with stores begin with and give in the end (this project's own).
-use Rattle.std.specs.Prelude.{ℕ, ◌≡◌, ◌≤◌, IfSome, List, None, Some, slice_get, vec_len}
+use Rattle.std.specs.Prelude.{ℕ, ◌≡◌, IfSome, List, None, Some, slice_get}
 use Rattle.replica.specs.Site.{IsSameSite, SiteState}
-use Rattle.site_desk.specs.declared.desk.TheConstants.{MOST_PASSES}
 use Rattle.site_journal.specs.Journals.{IsOfSite}
 use Rattle.site_journal.specs.declared.step.Step.{Step}
 use Rattle.stored_desk.specs.declared.step_store.CommitFault.TheVariants.{Other}
@@ -13,15 +12,12 @@ use Rattle.server.specs.declared.stored_site.StoredSite.{StoredSite}
 use Rattle.server.specs.declared.stored_start.StoredStart.{StoredStart}
 use Rattle.server.specs.declared.stored_working.StoredSiteTask.{StoredSiteTask}
 
--- the site at this place has the replica and the store of the start at this place, and some tasks, but
--- not too many
+-- the site at this place has the replica and the store of the start at this place
 pub record HasItsStart {D : Type 0} (starts : List (StoredStart D)) (place : ℕ) (site : StoredSiteTasks D StoredSite StoredSiteTask) : Type 0 where
   pub start : StoredStart D
   pub stands : slice_get starts place ≡ Some start
   pub replica_is : site.replica ≡ start.replica
   pub store_is : site.store ≡ start.store
-  pub some : 1 ≤ vec_len site.tasks
-  pub few : vec_len site.tasks ≤ MOST_PASSES
 
 -- the site that began as `replica` has ended: its journal is its own, with no more steps than each
 -- journal of a server, and so is its store, if that came back; if it didn't, there is a fault

@@ -5,6 +5,7 @@ use Rattle.site_links.specs.Links.{Receiving}
 use Rattle.site_links.specs.declared.linking.LinkEnds.{LinkEnds}
 use Rattle.site_links.specs.declared.linking.SiteLinks.{SiteLinks}
 use Rattle.site_threads.specs.declared.site_tasks.SiteTasks.{SiteTasks}
+use Rattle.server.specs.declared.ready_site.ReadySite.{ReadySite}
 use Rattle.server.specs.declared.site.Site.{Site}
 use Rattle.server.specs.declared.working.SiteTask.{SiteTask}
 use Rattle.server.specs.declared.working.SiteTask.TheVariants.{Answer, Send, Take}
@@ -23,14 +24,19 @@ takes_for own (link ∷ links) = Take (peer_at own (length links)) link ∷ take
 abbrev pub tasks_for : ℕ → ℕ → LinkEnds → List SiteTask
 tasks_for own answering links = replicate answering Answer ++ Send links.to ∷ takes_for own (reverse links.from.items)
 
--- the site at this place is a new one with the place for its number and the queues `names`, and has the
--- tasks of those ends of `links` that are its own, `answering` of which answer
-pub record HasItsTasks (names : List (List ℕ)) (answering : ℕ) (links : SiteLinks) (place : ℕ) (site : SiteTasks Site SiteTask) : Type 0 where
-  pub site_is : site.replica.site ≡ place
-  pub names_are : site.replica.names ≡ names
-  pub new : IsNew site.replica
+-- a site stands ready at its place: it has the place for its number, and the tasks of those ends of `links` that are its own, `answering`
+-- of which answer
+pub record IsReady (answering : ℕ) (links : SiteLinks) (place : ℕ) (site : ReadySite) : Type 0 where
   pub number : site.shared.number ≡ place
   pub ends : LinkEnds
   pub to : slice_get links.to.items place ≡ Some ends.to
   pub from : slice_get links.from.items place ≡ Some ends.from
   pub tasks_are : site.tasks.items ≡ tasks_for place answering ends
+
+-- a site is a new one with the queues `names`, and has what was ready for it
+pub record IsNewSite (names : List (List ℕ)) (ready : ReadySite) (site : SiteTasks Site SiteTask) : Type 0 where
+  pub site_is : site.replica.site ≡ ready.shared.number
+  pub names_are : site.replica.names ≡ names
+  pub new : IsNew site.replica
+  pub shared_is : site.shared ≡ ready.shared
+  pub tasks_are : site.tasks ≡ ready.tasks

@@ -9,11 +9,13 @@
 //! until the site has taken one.
 #![tactic(auto)]
 
-mod keeping_bell;
+mod hurrying_ear;
 mod listening;
 mod peer_link;
 mod peer_outlet;
+mod preparing;
 mod pumping;
+mod ready_site;
 mod serve_sites_fault;
 mod serving;
 mod sharing;
@@ -26,10 +28,10 @@ mod working;
 
 pub use dots::Memory;
 pub use serve_sites_fault::ServeSitesFault;
-pub use serving::{LAST_PORT, MOST_SERVED_SITES, serve_sites};
-pub use serving_clients::{IDLE_SECONDS, PLACES, ServerSettings, SessionSettings};
+pub use serving::serve_sites;
+pub use serving_clients::{LAST_PORT, ServerSettings, SessionSettings};
 pub use site::JOURNAL_STEPS;
+pub use site_threads::SiteOutput;
 pub use stored_serving::serve_stored_sites;
 pub use stored_start::StoredStart;
 pub use stored_threads::StoredSiteOutput;
-pub use working::MOST_PLACES;

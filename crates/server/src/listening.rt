@@ -9,30 +9,28 @@ ghost use Rattle.server.specs.Listening.{listening_line, listening_lines};
 use crate::ServeSitesFault;
 use ami_text::{Sink, write_all};
 use dots::Memory;
+use serving_clients::ServerSettings;
 use std::alloc::Global;
 use std::net::{IpAddr, Net, SocketAddr, TcpListener, TcpStream};
 
-// Listens for `sites` sites, at this port and those after it. Errors: `CannotListen`, with the first port that can't be listened on and
-// the system's reason; `Memory`.
+// Listens for each site of a server, at its port. Errors, in order: `Memory`; `CannotListen`, with the first port that can't be listened on
+// and the system's reason.
 pub(crate) fn listen<R: Net<Listener = TcpListener, Stream = TcpStream>>(
     rt: &R,
     alloc: Global,
-    address: IpAddr,
-    port: u16,
-    sites: u16,
+    settings: &ServerSettings,
 ) -> Result<Vec<TcpListener>, ServeSitesFault>
-    requires { port + sites ≤ 65536 }
-    ensures number { IfOk result (λ listeners. vec_len listeners ≡ sites) }
+    ensures number { IfOk result (λ listeners. vec_len listeners ≡ settings.now.sites) }
     ensures port { (own : ℕ) (reason : Error)
         → IsErrOf result (ServeSitesFault.CannotListen own reason)
-        → (port ≤ own) × (own < port + sites) }
+        → (settings.now.port ≤ own) × (own < settings.now.port + settings.now.sites) }
     ensures fault { IfErr result (λ fault. (fault ≡ ServeSitesFault.Memory)
         ⊎ ((own : ℕ) × (reason : Error) × (fault ≡ ServeSitesFault.CannotListen own reason))) }
 {
-    let mut listeners = Vec::with_capacity(alloc, usize::from(sites))?;
-    for site in 0..sites {
-        let own = port + site;
-        match TcpListener::bind(rt, SocketAddr::from((address, own))) {
+    let mut listeners = Vec::with_capacity(alloc, usize::from(settings.sites))?;
+    for site in 0..settings.sites {
+        let own = settings.port + site;
+        match TcpListener::bind(rt, SocketAddr::from((settings.address, own))) {
             Ok(listener) => listeners.push_reserved(listener),
             Err(reason) => return Err(ServeSitesFault::CannotListen(own, reason)),
         }
@@ -40,7 +38,7 @@ pub(crate) fn listen<R: Net<Listener = TcpListener, Stream = TcpStream>>(
     Ok(listeners)
 }
 
-// The line of a site that listens.
+// The line of a site that listens. It fails only when out of memory.
 fn line_of(alloc: Global, address: IpAddr, port: u16) -> Result<String, Memory>
     ensures { IfOk result (λ line. string_bytes line ≡ listening_line address port) }
 {
@@ -51,27 +49,24 @@ fn line_of(alloc: Global, address: IpAddr, port: u16) -> Result<String, Memory>
     Ok(line)
 }
 
-// Writes a line for each of `sites` sites, which all listen, at this port and those after it. Errors: `Write`, `Memory`.
+// Writes a line for each site of a server, which all listen. Errors: `Write`, `Memory`; a prefix of the lines was then written.
 pub(crate) fn write_listening<W: Sink>(
     alloc: Global,
     log: &mut W,
-    address: IpAddr,
-    port: u16,
-    sites: u16,
+    settings: &ServerSettings,
 ) -> Result<(), ServeSitesFault>
-    requires ports { port + sites ≤ 65536 }
     requires log { W.failed log.old ≡ false }
     ensures written { OnOk result (Appends (W.taken log.old) (W.taken log.new)
-        (listening_lines address port sites)) }
+        (listening_lines settings.now.address settings.now.port settings.now.sites)) }
     ensures begun { OnErr result (HasTaken (W.taken log.old) (W.taken log.new)
-        (listening_lines address port sites)) }
+        (listening_lines settings.now.address settings.now.port settings.now.sites)) }
     ensures write { IsErrOf result ServeSitesFault.Write ↔ (W.failed log.new ≡ true) }
     ensures works { OnOk result (W.failed log.new ≡ false) }
     ensures fault { IfErr result (λ fault.
         (fault ≡ ServeSitesFault.Write) ⊎ (fault ≡ ServeSitesFault.Memory)) }
 {
-    for site in 0..sites {
-        let line = line_of(alloc, address, port + site)?;
+    for site in 0..settings.sites {
+        let line = line_of(alloc, settings.address, settings.port + site)?;
         match write_all(log, line.as_bytes()) {
             Ok(()) => {}
             Err(_) => return Err(ServeSitesFault::Write),

@@ -3,7 +3,7 @@ ghost use Rattle.std.specs.Prelude.{◌≡◌, false};
 ghost use Rattle.site_pumps.specs.BriefSenders.{brief_sending};
 
 use crate::site::Site;
-use dots::{Bytes, Memory};
+use dots::{Memory, SharedBytes};
 use site_links::LinkSender;
 use site_pumps::{BriefSender, Outlet};
 use std::alloc::Global;
@@ -34,7 +34,7 @@ impl<'a> PeerOutlet<'a> {
         }
     }
 
-    // Notes that the peer lacks a frame.
+    // Logs that the peer lacks a frame, and notes it at the site's own bell, which rings.
     fn note_lack<R: Wait>(&self, rt: &R) {
         let (site, peer) = (self.site.number.number(), self.peer);
         let line = format!(in self.alloc;
@@ -44,14 +44,15 @@ impl<'a> PeerOutlet<'a> {
         self.site.lack_frames(rt);
     }
 
-    // Notes that the peer lacks no frame any more.
+    // Logs that the peer lacks no frame any more. The bell isn't changed.
     fn note_whole<R: Wait>(&self, rt: &R) {
         let (site, peer) = (self.site.number.number(), self.peer);
         let line = format!(in self.alloc; "queue_sites: site {peer}: caught up with site {site}");
         self.site.clients.events().add(rt, line);
     }
 
-    // Notes that the last frame was a whole, and puts a mark after it. Returns whether the link has taken the whole, or is down.
+    // Notes that the last frame was a whole. If the link has taken it, a mark is offered after it, and it is logged if the peer lacked
+    // frames. Returns whether the link has taken the whole, or is down. It never waits.
     pub fn end_whole<R: Wait>(&mut self, rt: &R) -> bool {
         let lacked = self.sender.lacks_items();
         let has_ended = self.sender.end_whole(rt, self.alloc);
@@ -67,7 +68,8 @@ impl<'a, R: Wait + Clock> Outlet<R> for PeerOutlet<'a> {
 
     ghost given = { λ old item new. IsSentBriefly old.sender item new.sender };
 
-    fn send(&mut self, rt: &R, item: &Bytes) -> Result<(), Memory> {
+    // Sends as `BriefSender` does. If the peer lacks frames from now on, that is logged, and noted at the site's own bell.
+    fn send(&mut self, rt: &R, item: &SharedBytes) -> Result<(), Memory> {
         let lacked = self.sender.lacks_items();
         self.sender.send(rt, item)?;
         if !lacked && self.sender.lacks_items() {

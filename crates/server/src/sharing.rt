@@ -3,14 +3,14 @@ ghost use Rattle.std.specs.Prelude.{◌≡◌, ◌<◌, IfOk, length, vec_len};
 
 use crate::site::Site;
 use dots::{Memory, SiteId};
-use event_log::EventLog;
-use pass_desk::SiteBell;
-use serving_clients::{Clients, SessionSettings};
+use serving_clients::{ClientSettings, Clients};
+use site_desk::SiteBell;
 use std::alloc::Global;
 use std::net::TcpListener;
 use std::sync::Arc;
 
-// Copies of the handles of these bells.
+// Copies of the handles of these bells, in their order. It fails when out of memory, or if a
+// bell has too many handles.
 fn copies_of(
     alloc: Global,
     bells: &[Arc<SiteBell, Global>],
@@ -22,7 +22,7 @@ fn copies_of(
     Ok(copies)
 }
 
-// A bell for each of `sites` sites.
+// A new bell for each of `sites` sites. It fails only when out of memory.
 pub(crate) fn bells_of(alloc: Global, sites: usize) -> Result<Vec<Arc<SiteBell, Global>>, Memory>
     ensures { IfOk result (λ bells. vec_len bells ≡ sites) }
 {
@@ -36,21 +36,13 @@ pub(crate) fn bells_of(alloc: Global, sites: usize) -> Result<Vec<Arc<SiteBell, 
     Ok(bells)
 }
 
-// How the clients of each site of a server are served.
-#[derive(Clone, Copy)]
-pub(crate) struct ClientSettings<'s, 'e> {
-    pub settings: &'s SessionSettings,
-    pub places: u16,
-    pub events: &'e Arc<EventLog, Global>,
-    // How many connections a site takes, if it isn't any number.
-    pub connections: Option<u32>,
-}
-
-// What the threads of the site of this number share.
+// What the threads of the site of this number share. `bells` are those of all sites, by their
+// numbers. `Memory`: out of memory, or a bell or the log has too many handles; the listener is
+// dropped.
 pub(crate) fn shared_by(
     alloc: Global,
     number: SiteId,
-    settings: &ClientSettings<'_, '_>,
+    settings: &ClientSettings<'_>,
     bells: &[Arc<SiteBell, Global>],
     listener: TcpListener,
 ) -> Result<Site, Memory>
@@ -66,25 +58,17 @@ pub(crate) fn shared_by(
         drop(listener);
         return Err(Memory);
     };
-    let Ok(events) = Arc::try_clone(settings.events) else {
-        drop(bells);
-        drop(bell);
-        drop(listener);
-        return Err(Memory);
-    };
-    let clients = Clients::new(
-        alloc,
-        number,
-        listener,
-        settings.settings.copy(),
-        settings.places,
-        settings.connections,
-        events,
-    );
-    Ok(Site {
-        number,
-        clients,
-        bell,
-        bells,
-    })
+    match Clients::new(alloc, number, listener, settings) {
+        Ok(clients) => Ok(Site {
+            number,
+            clients,
+            bell,
+            bells,
+        }),
+        Err(_) => {
+            drop(bell);
+            drop(bells);
+            Err(Memory)
+        }
+    }
 }

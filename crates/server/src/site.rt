@@ -1,7 +1,7 @@
 //! What the threads of one site share.
 use dots::SiteId;
-use pass_desk::SiteBell;
 use serving_clients::Clients;
+use site_desk::SiteBell;
 use std::alloc::Global;
 use std::sync::{Arc, Wait};
 
@@ -19,31 +19,39 @@ pub(crate) struct Site {
 }
 
 impl Site {
-    // Notes at the bell of a peer that this site is behind it.
+    // The number of its peers: all other sites of the server.
+    pub fn peers(&self) -> usize {
+        self.bells.len().saturating_sub(1)
+    }
+
+    // Notes at the bell of a peer that this site is behind it, which rings that bell.
+    // Nothing happens if there is no such peer.
     pub fn fall_behind<R: Wait>(&self, rt: &R, peer: SiteId) {
         if let Some(bell) = self.bells.get(usize::from(peer.number())) {
             bell.fall_behind(rt, self.number);
         }
     }
 
-    // Notes at the site's own bell that a peer lacks frames, as a link was full.
+    // Notes at the site's own bell that a peer lacks frames, as a link was full. The
+    // bell rings.
     pub fn lack_frames<R: Wait>(&self, rt: &R) {
         self.bell.fall_behind(rt, self.number);
     }
 
-    // Notes at the site's own bell that no peer lacks frames any more.
+    // Notes at the site's own bell that no peer lacks frames any more. Nothing rings.
     pub fn lack_no_frames<R: Wait>(&self, rt: &R) {
         self.bell.catch_up(rt, self.number);
     }
 
-    // Notes at the bell of a peer that this site has caught up with it.
+    // Notes at the bell of a peer that this site has caught up with it. Nothing rings.
     pub fn catch_up<R: Wait>(&self, rt: &R, peer: SiteId) {
         if let Some(bell) = self.bells.get(usize::from(peer.number())) {
             bell.catch_up(rt, self.number);
         }
     }
 
-    // Notes at the bells of all peers that this site has removed a member.
+    // Notes at the bells of all sites, its own too, that this site has removed a member.
+    // A bell that doesn't have this site as behind ignores it.
     pub fn hurry_peers<R: Wait>(&self, rt: &R) {
         for bell in &self.bells {
             bell.hurry(rt, self.number);

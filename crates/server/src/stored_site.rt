@@ -24,7 +24,7 @@ pub(crate) struct StoredSite {
 }
 
 impl StoredSite {
-    // Notes that a task has ended.
+    // Notes that a task has ended: each calls it once, but the one that saves.
     pub fn end_task(&self) {
         let _ = self.running.fetch_sub(1, Ordering::SeqCst);
     }
@@ -44,7 +44,7 @@ impl StoredSite {
         }
     }
 
-    // Notes that a site of the server has failed.
+    // Notes that a site of the server has failed. Nothing wakes: each site finds it after its next save, and then ends.
     pub fn fail(&self) {
         self.has_failed.store(true, Ordering::SeqCst);
     }

@@ -1,17 +1,17 @@
 //! The tasks of the threads of a site with a store.
-ghost use Rattle.std.specs.Prelude.{◌≡◌, ◌+◌, ◌≤◌, IfOk, vec_capacity, vec_len};
+ghost use Rattle.std.specs.Prelude.{◌≡◌, ◌+◌, IfOk, vec_len};
 
 use crate::peer_link::PeerLink;
 use crate::pumping::{send_news, take_news};
 use crate::site::Site;
 use crate::stored_site::StoredSite;
-use crate::working::{SiteTask, answer_over, tasks_of};
+use crate::working::{SiteTask, answer_over};
 use dots::{Memory, SiteId};
 use pass_desk::RingingDesk;
 use replica::TakeFault;
 use site_desk::Pass;
 use site_journal::DeskFault;
-use site_links::{LinkEnds, LinkReceiver, LinkSender};
+use site_links::{LinkReceiver, LinkSender};
 use site_threads::{TaskEnd, TaskOutput};
 use std::alloc::Global;
 use std::net::{Net, TcpListener, TcpStream};
@@ -34,18 +34,15 @@ pub(crate) enum StoredSiteTask {
     Save,
 }
 
-// The tasks of the site `own` with a store: those of a site without a store, and one that saves.
+// The tasks of a site with a store: one that saves, and then those of a site without a store, the last first. It fails only when out of
+// memory, and drops them.
 pub(crate) fn stored_tasks_of(
     alloc: Global,
-    own: SiteId,
-    answering: u32,
-    links: LinkEnds,
+    served: Vec<SiteTask>,
 ) -> Result<Vec<StoredSiteTask>, Memory>
-    requires links { vec_len links.from ≤ 63 }
-    ensures { IfOk result (λ tasks.
-        vec_len tasks ≡ vec_len links.from + (answering + 2)) }
+    ensures { IfOk result (λ tasks. vec_len tasks ≡ vec_len served + 1) }
 {
-    let mut served = tasks_of(alloc, own, answering, links)?;
+    let mut served = served;
     let mut tasks = match Vec::with_capacity(alloc, served.len() + 1) {
         Ok(tasks) => tasks,
         Err(_) => {
@@ -69,8 +66,10 @@ impl TaskOutput for StoredSiteTask {
     ghost gives = { λ task site names old output new. ⊤ };
 }
 
-// Answers the clients of a site by this pass, once the site has frames of its peers: if they know changes of the site that its store lacks,
-// it ends before it makes a change. Each reply leaves once its step is durable.
+// Answers the clients of a site by this pass, once it has taken or refused a frame of each peer, or after 4 seconds: if they know changes
+// of the site that its store lacks, it mostly ends before it makes a change. It returns when the site takes no more clients or was stopped,
+// as it is if a site of the server has failed. Each answer rings the site's bell, and its reply leaves once its step is durable. The last
+// such thread ends the bell. Gives the pass back.
 fn answer_by<
     D: StepStore,
     L: StoredLedger,
@@ -88,7 +87,8 @@ fn answer_by<
     ringing.into_inner().into_pass()
 }
 
-// Sends what a site does by this pass, and first a whole. It ends early if the site's store fails.
+// Sends on these links by this pass what a site with a store does, and first a whole, until its bell has ended or its store has failed. The
+// journal is kept within its limits.
 fn send_by<D: StepStore, L: StoredLedger, R: Wait + Clock>(
     rt: &R,
     alloc: Global,
@@ -99,8 +99,8 @@ fn send_by<D: StepStore, L: StoredLedger, R: Wait + Clock>(
 )
     ensures { pass.new.ordinal ≡ pass.old.ordinal }
 {
-    let mut port = StoredPort::new(desk, pass);
-    let _ = send_news(rt, alloc, site, desk, &mut port, links, true);
+    let port = StoredPort::new(desk, pass);
+    send_news(rt, alloc, site, desk, port, links, true);
 }
 
 // Logs why a frame of a peer ends a site: the store of a site is older than what other sites know of that site.
@@ -112,8 +112,9 @@ fn log_end<R: Wait>(rt: &R, alloc: Global, site: &Site, peer: SiteId, fault: Tak
     site.clients.events().add(rt, line);
 }
 
-// Takes the frames of a peer by this pass. It ends early if the site's store fails. If the store lacks what the peer knows of the site it
-// ends too, logs that, and ends all sites of the server.
+// Takes the frames of a peer by this pass, until the link has ended, the site's store has failed, or a frame shows that the store lacks
+// what the peer knows of the site: that is logged, and all sites of the server end. The journal is kept within its limits. The link is
+// given up at the end.
 fn take_by<D: StepStore, L: StoredLedger, R: Wait>(
     rt: &R,
     alloc: Global,
@@ -126,16 +127,17 @@ fn take_by<D: StepStore, L: StoredLedger, R: Wait>(
     ensures { pass.new.ordinal ≡ pass.old.ordinal }
 {
     let site = &shared.site;
-    let mut link = PeerLink::new(alloc, site, peer, desk, link, Some(&shared.awaited));
-    let mut port = StoredPort::new(desk, pass);
-    if let Err(DeskFault::Take(fault)) = take_news(rt, desk, &mut port, &mut link) {
+    let mut link = PeerLink::new(alloc, site, peer, link, Some(&shared.awaited));
+    let port = StoredPort::new(desk, pass);
+    take_news(rt, desk, port, &mut link);
+    if let Some(DeskFault::Take(fault)) = link.ending {
         log_end(rt, alloc, site, peer, fault);
         shared.fail();
     }
     link.give_up(rt);
 }
 
-// Does a task of a site by this pass, which a site without a store has too.
+// Does a task of a site by this pass, which a site without a store has too, to its end. Gives the pass back.
 fn serve_by<
     D: StepStore,
     L: StoredLedger,
@@ -166,7 +168,8 @@ fn log_failure<R: Wait>(rt: &R, alloc: Global, site: &Site, fault: CommitFault) 
     site.clients.events().add(rt, line);
 }
 
-// Saves what a site has done so far. Returns why a step can't be saved, if one can't: a commit has failed, or (`Other`) it has another cause.
+// Saves what a site has done so far, and gives its store a new base if one is due. Returns why a step can't be saved, if one can't: a
+// commit has failed, or (`Other`) it has another cause. `None` also if there was no memory: a later call does it.
 fn failure<D: StepStore, L: StoredLedger, R: Wait>(
     rt: &R,
     desk: &StoredDesk<D, L>,
@@ -177,8 +180,8 @@ fn failure<D: StepStore, L: StoredLedger, R: Wait>(
     }
 }
 
-// Saves what a site does, again and again, until its other tasks have ended. If a step can't be saved it logs why, once. The site ends if
-// a site of the server has failed.
+// Saves what a site does, 50 ms after the save before, until its other tasks have ended. If a step can't be saved it logs why, once, and
+// all sites of the server end. If one has failed it stops this site's clients, after each save.
 fn save_to_the_end<
     D: StepStore,
     L: StoredLedger,
@@ -206,6 +209,7 @@ fn save_to_the_end<
 
 impl<R: Net<Listener = TcpListener, Stream = TcpStream> + Wait + Clock> StoredTask<StoredSite, R>
     for StoredSiteTask {
+    // A task that has ended is noted as such, but the one that saves, which waits for the others.
     fn run<D: StepStore, L: StoredLedger>(
         self,
         rt: &R,

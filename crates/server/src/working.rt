@@ -18,9 +18,6 @@ use std::net::{Net, TcpListener, TcpStream};
 use std::sync::Wait;
 use std::time::Clock;
 
-/// How many clients a site may answer at once.
-pub const MOST_PLACES: u16 = 64;
-
 // What a thread of a site does.
 #[derive(Drop)]
 pub(crate) enum SiteTask {
@@ -49,7 +46,8 @@ fn peer_of(own: SiteId, place: usize) -> SiteId
     peer
 }
 
-// The tasks of the site `own`: a number of threads answer, one sends, and one takes for each link that receives.
+// The tasks of the site `own`: `answering` threads answer, one sends, and one takes for each link that receives, at most 63. It fails
+// only when out of memory, and drops the links.
 pub(crate) fn tasks_of(
     alloc: Global,
     own: SiteId,
@@ -90,7 +88,8 @@ impl TaskOutput for SiteTask {
     ghost gives = { λ task site names old output new. ⊤ };
 }
 
-// Answers the clients of a site over this desk. The last thread that does ends the site's bell.
+// Answers one client of a site after another over this desk, until the site takes no more or was stopped. The last thread that does ends
+// the site's bell.
 pub(crate) fn answer_over<
     R: Net<Listener = TcpListener, Stream = TcpStream> + Wait + Clock,
     D: Desk<R>,
@@ -103,7 +102,8 @@ pub(crate) fn answer_over<
     }
 }
 
-// Answers the clients of a site by this pass.
+// Answers the clients of a site without a store by this pass, as `answer_over` does. Each answer rings the site's bell. Gives the pass
+// back.
 fn answer_by<L: SiteLedger, R: Net<Listener = TcpListener, Stream = TcpStream> + Wait + Clock>(
     rt: &R,
     alloc: Global,
@@ -118,7 +118,7 @@ fn answer_by<L: SiteLedger, R: Net<Listener = TcpListener, Stream = TcpStream> +
     ringing.into_inner().into_pass()
 }
 
-// Sends what a site does by this pass.
+// Sends on these links by this pass what a site without a store does, until its bell has ended. The journal is kept within its limits.
 fn send_by<L: SiteLedger, R: Wait + Clock>(
     rt: &R,
     alloc: Global,
@@ -129,12 +129,12 @@ fn send_by<L: SiteLedger, R: Wait + Clock>(
 )
     ensures { pass.new.ordinal ≡ pass.old.ordinal }
 {
-    let mut port = DeskPort::new(desk, pass);
-    // A site without a store has no fault that ends this.
-    let _ = send_news(rt, alloc, site, desk, &mut port, links, false);
+    let port = DeskPort::new(desk, pass);
+    send_news(rt, alloc, site, desk, port, links, false);
 }
 
-// Takes the frames of a peer by this pass.
+// Takes the frames of a peer by this pass, at a site without a store, until the link has ended, and gives the link up. The journal is
+// kept within its limits.
 fn take_by<'a, L: SiteLedger, R: Wait>(
     rt: &R,
     alloc: Global,
@@ -146,14 +146,14 @@ fn take_by<'a, L: SiteLedger, R: Wait>(
 )
     ensures { pass.new.ordinal ≡ pass.old.ordinal }
 {
-    let mut link = PeerLink::new(alloc, site, peer, desk, link, None);
-    let mut port = DeskPort::new(desk, pass);
-    // A site without a store has no fault that ends this.
-    let _ = take_news(rt, desk, &mut port, &mut link);
+    let mut link = PeerLink::new(alloc, site, peer, link, None);
+    let port = DeskPort::new(desk, pass);
+    take_news(rt, desk, port, &mut link);
     link.give_up(rt);
 }
 
 impl<R: Net<Listener = TcpListener, Stream = TcpStream> + Wait + Clock> Task<Site, R> for SiteTask {
+    // Does the task until it ends by itself. There is no output.
     fn run<L: SiteLedger>(
         self,
         rt: &R,

@@ -22,7 +22,7 @@ pub struct Listeners {
     pub links: TcpListener,
 }
 
-// The lines that say where a site listens.
+// The lines that say where a site listens: for clients, then for links. It fails only when out of memory.
 fn lines_of(alloc: Global, clients: SocketAddr, links: SocketAddr) -> Result<String, Memory>
     ensures { IfOk result (λ lines. string_bytes lines ≡ address_lines clients links) }
 {
@@ -30,7 +30,7 @@ fn lines_of(alloc: Global, clients: SocketAddr, links: SocketAddr) -> Result<Str
     Ok(lines)
 }
 
-// The address of a listener.
+// The address of a listener. Error: `Linked` with `NoAddress` and the system's reason.
 fn address_of(listener: &TcpListener) -> Result<SocketAddr, ServiceFault>
     ensures fault { IfErr result (λ fault. (reason : Error)
         × (fault ≡ ServiceFault.Linked (LinkedSiteFault.NoAddress reason))) }
@@ -41,7 +41,8 @@ fn address_of(listener: &TcpListener) -> Result<SocketAddr, ServiceFault>
     }
 }
 
-// Writes where a site listens. Errors: `Linked` with `NoAddress`; `Memory`; `Write`.
+// Writes where a site listens. Errors, in order: `Linked` with `NoAddress`, and `Memory`, which write nothing; `Write`, after a prefix of
+// the lines.
 pub(crate) fn write_addresses<W: Sink>(
     alloc: Global,
     log: &mut W,

@@ -4,20 +4,19 @@ ghost use Rattle.std.specs.Prelude.{length, map, string_bytes, true, vec_len};
 ghost use Rattle.std.specs.Io.KnownBytes.{Appends};
 ghost use Rattle.std.specs.declared.net.socket_addr.SocketAddr.{SocketAddr};
 ghost use Rattle.replica.specs.Deeds.{IsNew};
-ghost use Rattle.replica.specs.Site.{IsSameSite};
-ghost use Rattle.linked_site.specs.declared.link_settings.TheConstants.{MOST_PEERS};
-ghost use Rattle.linked_site.specs.declared.tasks.TheConstants.{MOST_PLACES};
+ghost use Rattle.stored_threads.specs.NewStores.{IsNewStore};
 ghost use Rattle.site_service.specs.Addresses.{address_lines};
 ghost use Rattle.site_service.specs.Refusals.{IsRefusal};
 
 use crate::addresses::write_addresses;
 use crate::links::{links_of, links_without_store};
 use crate::opening::open_site;
-use crate::{EndReason, LinkedRequest, Listeners, MOST_PEERS, MOST_PLACES, ServiceFault};
+use crate::{EndReason, LinkedRequest, Listeners, ServiceFault};
 use ami_text::Sink;
 use event_log::EventLog;
 use linked_site::{LinkSettings, LinkedSiteFault, serve_linked_site, serve_stored_linked_site};
 use replica::Replica;
+use serving_clients::ClientSettings;
 use site_files::{SiteFile, StoreInFile, StorePath};
 use std::alloc::Global;
 use std::net::{Net, TcpListener, TcpStream};
@@ -26,7 +25,8 @@ use std::sync::{Arc, Wait};
 use std::thread::Threads;
 use std::time::Clock;
 
-// The site whose store is this file, and how it is linked.
+// The site whose store is this file, which is made if it is missing, and how it is linked. Errors, in order: those of `open_site`;
+// `Memory`, and the store is closed.
 fn linked_file<D: StoreInFile, R: Wait>(
     rt: &R,
     host: &HostRuntime,
@@ -34,9 +34,8 @@ fn linked_file<D: StoreInFile, R: Wait>(
     place: StorePath<'_>,
     events: &EventLog,
 ) -> Result<(SiteFile<D>, LinkSettings), ServiceFault>
-    ensures begun { IfOk result (λ it. IsSameSite (D.begun it.0.store) it.0.replica) }
-    ensures holds { IfOk result (λ it. D.holds it.0.store []) }
-    ensures keeps { IfOk result (λ it. D.keeps it.0.store []) }
+    ensures new { IfOk result (λ it.
+        IsNewStore D.holds D.keeps D.begun it.0.replica it.0.store) }
     ensures kept { IfOk result (λ it. IsTrue place.entry.keeps → D.keeps_rows it.0.store) }
     ensures key { IfOk result (λ it. it.1.key ≡ request.now.key.now) }
     // The site's card is that of its store.
@@ -60,7 +59,8 @@ fn linked_file<D: StoreInFile, R: Wait>(
     }
 }
 
-// Serves a site over its store until it ends.
+// Serves a site over its store, which has no step since the replica, until it ends, and returns why. The journal and the store are dropped.
+// Errors are those of `serve_stored_linked_site`.
 fn serve_file<
     R: Net<Listener = TcpListener, Stream = TcpStream>
         + Threads
@@ -72,21 +72,15 @@ fn serve_file<
 >(
     rt: &R,
     alloc: Global,
-    request: &LinkedRequest<'_>,
+    settings: &ClientSettings<'_>,
     file: SiteFile<D>,
     links: LinkSettings,
     listeners: Listeners,
-    sessions: Option<u32>,
-    events: &Arc<EventLog, Global>,
 ) -> Result<EndReason, LinkedSiteFault>
 where
     D::Group: Send,
     D::Base: Send,
-    requires places { request.now.places ≤ MOST_PLACES }
-    requires peers { vec_len links.peers ≤ MOST_PEERS }
-    requires begun { IsSameSite (D.begun file.store) file.replica }
-    requires holds { D.holds file.store [] }
-    requires keeps { D.keeps file.store [] }
+    requires { IsNewStore D.holds D.keeps D.begun file.replica file.store }
 {
     let SiteFile { store, replica, .. } = file;
     let Listeners {
@@ -94,17 +88,7 @@ where
         links: heard,
     } = listeners;
     match serve_stored_linked_site::<R, D>(
-        rt,
-        alloc,
-        request.session,
-        request.places,
-        links,
-        replica,
-        store,
-        clients,
-        heard,
-        sessions,
-        events,
+        rt, alloc, settings, links, replica, store, clients, heard,
     ) {
         Ok(end) => {
             let reason = end.reason;
@@ -144,8 +128,6 @@ pub fn serve_linked_file<
 where
     D::Group: Send,
     D::Base: Send,
-    requires places { request.now.places ≤ MOST_PLACES }
-    requires peers { length request.now.peers.now ≤ MOST_PEERS }
     requires log { W.failed log.old ≡ false }
     ensures written { OnOk result ((clients : SocketAddr) × (links : SocketAddr)
         × Appends (W.taken log.old) (W.taken log.new) (address_lines clients links)) }
@@ -166,22 +148,18 @@ where
         drop(links);
         return Err(fault);
     }
-    match serve_file::<R, D>(
-        rt,
-        host.alloc(),
-        request,
-        file,
-        links,
-        listeners,
-        sessions,
+    let settings = ClientSettings {
+        session: request.session,
+        connections: sessions,
         events,
-    ) {
+    };
+    match serve_file::<R, D>(rt, host.alloc(), &settings, file, links, listeners) {
         Ok(reason) => Ok(reason),
         Err(fault) => Err(ServiceFault::Linked(fault)),
     }
 }
 
-// A new site, and how it is linked.
+// A new site, and how it is linked. Errors: `NoRandom`; `Memory`, before or after it.
 fn new_site<R: RandomSource>(
     rt: &R,
     alloc: Global,
@@ -209,7 +187,7 @@ fn new_site<R: RandomSource>(
     }
 }
 
-// Serves a site without a store until it ends.
+// Serves a site without a store until it ends, and returns why. The journal is dropped. Errors are those of `serve_linked_site`.
 fn serve_new<
     R: Net<Listener = TcpListener, Stream = TcpStream>
         + Threads
@@ -220,32 +198,16 @@ fn serve_new<
 >(
     rt: &R,
     alloc: Global,
-    request: &LinkedRequest<'_>,
+    settings: &ClientSettings<'_>,
     replica: Replica,
     links: LinkSettings,
     listeners: Listeners,
-    sessions: Option<u32>,
-    events: &Arc<EventLog, Global>,
-) -> Result<EndReason, LinkedSiteFault>
-    requires places { request.now.places ≤ MOST_PLACES }
-    requires peers { vec_len links.peers ≤ MOST_PEERS }
-{
+) -> Result<EndReason, LinkedSiteFault> {
     let Listeners {
         clients,
         links: heard,
     } = listeners;
-    match serve_linked_site(
-        rt,
-        alloc,
-        request.session,
-        request.places,
-        links,
-        replica,
-        clients,
-        heard,
-        sessions,
-        events,
-    ) {
+    match serve_linked_site(rt, alloc, settings, links, replica, clients, heard) {
         Ok(end) => {
             let reason = end.reason;
             drop(end);
@@ -277,8 +239,6 @@ pub fn serve_volatile<
     log: &mut W,
     events: &Arc<EventLog, Global>,
 ) -> Result<EndReason, ServiceFault>
-    requires places { request.now.places ≤ MOST_PLACES }
-    requires peers { length request.now.peers.now ≤ MOST_PEERS }
     requires log { W.failed log.old ≡ false }
     ensures written { OnOk result ((clients : SocketAddr) × (links : SocketAddr)
         × Appends (W.taken log.old) (W.taken log.new) (address_lines clients links)) }
@@ -299,9 +259,12 @@ pub fn serve_volatile<
         drop(links);
         return Err(fault);
     }
-    match serve_new(
-        rt, alloc, request, replica, links, listeners, sessions, events,
-    ) {
+    let settings = ClientSettings {
+        session: request.session,
+        connections: sessions,
+        events,
+    };
+    match serve_new(rt, alloc, &settings, replica, links, listeners) {
         Ok(reason) => Ok(reason),
         Err(fault) => Err(ServiceFault::Linked(fault)),
     }

@@ -17,17 +17,16 @@ pub struct LinkedRequest<'a> {
     pub site: SiteId,
     /// Its queues.
     pub list: &'a QueueList,
-    /// How many clients it answers at once, 1 to 64.
-    pub places: u16,
     /// The settings of its sessions.
     pub session: &'a SessionSettings,
     /// The key of the secret that all sites share.
     pub key: &'a Key,
     /// The addresses of its peers, at most 64, each a host and a port. Its own may be among them.
     pub peers: &'a [String],
+    pub ghost few_peers: { length peers.now ≤ MOST_PEERS },
 }
 
-// Copies of the addresses of peers.
+// Copies of the addresses of peers, in their order. It fails only when out of memory.
 fn peers_of(alloc: Global, addresses: &[String]) -> Result<Vec<String>, Memory>
     ensures number { IfOk result (λ peers. vec_len peers ≡ length addresses.now) }
     ensures texts { IfOk result (λ peers.
@@ -40,7 +39,7 @@ fn peers_of(alloc: Global, addresses: &[String]) -> Result<Vec<String>, Memory>
     Ok(peers)
 }
 
-// How a site is linked whose store has this name and was started so often.
+// How a site is linked whose store has this name and was started `starts` times. It fails only when out of memory.
 pub(crate) fn links_of(
     alloc: Global,
     request: &LinkedRequest<'_>,
@@ -63,7 +62,7 @@ pub(crate) fn links_of(
     })
 }
 
-// How a site is linked that has no store.
+// How a site is linked that has no store. Errors, in order: `Memory`, `NoRandom`.
 pub(crate) fn links_without_store<R: RandomSource>(
     rt: &R,
     alloc: Global,

@@ -1,6 +1,6 @@
 //! Opens the stores of sites.
 ghost use Rattle.std.specs.Prelude.{◌≡◌, [], IfErr, IfOk, IsTrue, string_bytes};
-ghost use Rattle.replica.specs.Site.{IsSameSite};
+ghost use Rattle.stored_threads.specs.NewStores.{IsNewStore};
 ghost use Rattle.site_service.specs.Refusals.{IsRefusal};
 
 use crate::ServiceFault;
@@ -14,14 +14,14 @@ use std::sync::Wait;
 // How many steps of a store are in memory while it is opened.
 const MOST_RESTORED_STEPS: u32 = 1_000;
 
-// Logs that a site has a new store.
+// Logs that a site has a new store, at this path.
 fn log_new<R: Wait>(rt: &R, alloc: Global, path: &str, site: SiteId, events: &EventLog) {
     let number = site.number();
     let line = format!(in alloc; "queue_sites: site {number}: new store {path}");
     events.add(rt, line);
 }
 
-// That the store at a path gives no site, for this cause.
+// The fault of a store at a path that gives no site, for this cause: `Store`, or `Memory` if that is the cause or the path can't be copied.
 fn refusal(alloc: Global, path: &str, fault: SiteFileFault) -> ServiceFault
     ensures kind { IsRefusal result }
     ensures cause { (at : _) (why : _) → result ≡ ServiceFault.Store at why → why ≡ fault }
@@ -37,7 +37,8 @@ fn refusal(alloc: Global, path: &str, fault: SiteFileFault) -> ServiceFault
     }
 }
 
-// The site whose store is this file. A new store is logged.
+// The site whose store is this file. If the file is missing it is made, which is logged. Errors: `Store`, with the path and the cause;
+// `Memory`.
 pub(crate) fn open_site<D: StoreInFile, R: Wait>(
     rt: &R,
     host: &HostRuntime,
@@ -48,9 +49,8 @@ pub(crate) fn open_site<D: StoreInFile, R: Wait>(
 ) -> Result<SiteFile<D>, ServiceFault>
     ensures site { IfOk result (λ it. it.replica.site ≡ site) }
     ensures names { IfOk result (λ it. it.replica.names ≡ list.now) }
-    ensures begun { IfOk result (λ it. IsSameSite (D.begun it.store) it.replica) }
-    ensures holds { IfOk result (λ it. D.holds it.store []) }
-    ensures keeps { IfOk result (λ it. D.keeps it.store []) }
+    ensures new { IfOk result (λ it.
+        IsNewStore D.holds D.keeps D.begun it.replica it.store) }
     ensures name { IfOk result (λ it. it.name ≡ D.name it.store) }
     ensures starts { IfOk result (λ it. it.starts ≡ D.starts it.store) }
     ensures kept { IfOk result (λ it. IsTrue place.entry.keeps → D.keeps_rows it.store) }

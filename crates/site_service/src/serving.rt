@@ -6,10 +6,8 @@ ghost use Rattle.std.specs.Io.KnownBytes.{Appends};
 ghost use Rattle.std.specs.declared.io.Error.{Error};
 ghost use Rattle.ami_text.specs.Devices.{HasTaken};
 ghost use Rattle.launcher.specs.Places.{AtEach};
-ghost use Rattle.replica.specs.Site.{IsSameSite};
+ghost use Rattle.stored_threads.specs.NewStores.{IsNewStore};
 ghost use Rattle.server.specs.Listening.{listening_lines};
-ghost use Rattle.server.specs.declared.serving.TheConstants.{LAST_PORT, MOST_SERVED_SITES};
-ghost use Rattle.server.specs.declared.working.TheConstants.{MOST_PLACES};
 ghost use Rattle.site_service.specs.Refusals.{IsRefusal};
 
 use crate::ServiceFault;
@@ -18,10 +16,7 @@ use ami_text::Sink;
 use dots::SiteId;
 use event_log::EventLog;
 use replica::QueueList;
-use server::{
-    LAST_PORT, MOST_PLACES, MOST_SERVED_SITES, ServeSitesFault, StoredStart, serve_sites,
-    serve_stored_sites,
-};
+use server::{ServeSitesFault, StoredStart, serve_sites, serve_stored_sites};
 use serving_clients::ServerSettings;
 use site_files::{SiteFile, StoreInFile, StorePath, file_of_site};
 use std::alloc::Global;
@@ -30,7 +25,7 @@ use std::sync::{Arc, Wait};
 use std::thread::Threads;
 use std::time::Clock;
 
-// The site of this number, whose store is in a folder.
+// The site of this number, whose store is in a folder. Errors: `Memory`; those of `open_site`.
 fn start_of<D: StoreInFile, R: Wait>(
     rt: &R,
     host: &HostRuntime,
@@ -41,9 +36,8 @@ fn start_of<D: StoreInFile, R: Wait>(
 ) -> Result<StoredStart<D>, ServiceFault>
     ensures site { IfOk result (λ it. it.replica.site ≡ site) }
     ensures names { IfOk result (λ it. it.replica.names ≡ list.now) }
-    ensures begun { IfOk result (λ it. IsSameSite (D.begun it.store) it.replica) }
-    ensures holds { IfOk result (λ it. D.holds it.store []) }
-    ensures keeps { IfOk result (λ it. D.keeps it.store []) }
+    ensures new { IfOk result (λ it.
+        IsNewStore D.holds D.keeps D.begun it.replica it.store) }
     ensures kept { IfOk result (λ it. IsTrue folder.entry.keeps → D.keeps_rows it.store) }
     ensures fault { IfErr result IsRefusal }
 {
@@ -65,32 +59,30 @@ fn start_of<D: StoreInFile, R: Wait>(
     }
 }
 
-// The sites whose stores are in a folder, in the order of their numbers.
+// The sites of a server, whose stores are in a folder, in the order of their numbers. Error: `Memory`, or the first of a site; the stores
+// that were opened are closed, and new ones stay.
 fn starts_of<D: StoreInFile, R: Wait>(
     rt: &R,
     host: &HostRuntime,
     folder: StorePath<'_>,
-    sites: u16,
+    settings: &ServerSettings,
     list: &QueueList,
     events: &EventLog,
 ) -> Result<Vec<StoredStart<D>>, ServiceFault>
-    requires { sites ≤ MOST_SERVED_SITES }
-    ensures number { IfOk result (λ starts. vec_len starts ≡ sites) }
+    ensures number { IfOk result (λ starts. vec_len starts ≡ settings.now.sites) }
     ensures sites { IfOk result (λ starts.
         AtEach (λ place it. it.replica.site ≡ place) starts.items) }
     ensures names { IfOk result (λ starts.
         All (λ it. it.replica.names ≡ list.now) starts.items) }
-    ensures begun { IfOk result (λ starts.
-        All (λ it. IsSameSite (D.begun it.store) it.replica) starts.items) }
-    ensures holds { IfOk result (λ starts. All (λ it. D.holds it.store []) starts.items) }
-    ensures keeps { IfOk result (λ starts. All (λ it. D.keeps it.store []) starts.items) }
+    ensures new { IfOk result (λ starts. All (λ it.
+        IsNewStore D.holds D.keeps D.begun it.replica it.store) starts.items) }
     ensures fault { IfErr result IsRefusal }
 {
-    let mut starts = match Vec::with_capacity(host.alloc(), usize::from(sites)) {
+    let mut starts = match Vec::with_capacity(host.alloc(), usize::from(settings.sites)) {
         Ok(starts) => starts,
         Err(_) => return Err(ServiceFault::Memory),
     };
-    for number in 0..sites {
+    for number in 0..settings.sites {
         let Some(site) = SiteId::new(number) else {
             unreachable!();
         };
@@ -131,12 +123,6 @@ pub fn serve_site_files<
 where
     D::Group: Send,
     D::Base: Send,
-    requires some { 1 ≤ settings.now.sites }
-    requires most { settings.now.sites ≤ MOST_SERVED_SITES }
-    requires answered { 1 ≤ settings.now.places }
-    requires places { settings.now.places ≤ MOST_PLACES }
-    requires first { 1 ≤ settings.now.port }
-    requires last { settings.now.port ≤ LAST_PORT }
     requires log { W.failed log.old ≡ false }
     ensures written { OnOk result (Appends (W.taken log.old) (W.taken log.new)
         (listening_lines settings.now.address settings.now.port settings.now.sites)) }
@@ -153,7 +139,7 @@ where
         ↔ (W.failed log.new ≡ true) }
     ensures works { OnOk result (W.failed log.new ≡ false) }
 {
-    let starts = match starts_of(rt, host, folder, settings.sites, list, events) {
+    let starts = match starts_of(rt, host, folder, settings, list, events) {
         Ok(starts) => starts,
         Err(fault) => return Err(fault),
     };
@@ -183,12 +169,6 @@ pub fn serve_new_sites<
     log: &mut W,
     events: &Arc<EventLog, Global>,
 ) -> Result<(), ServiceFault>
-    requires some { 1 ≤ settings.now.sites }
-    requires most { settings.now.sites ≤ MOST_SERVED_SITES }
-    requires answered { 1 ≤ settings.now.places }
-    requires places { settings.now.places ≤ MOST_PLACES }
-    requires first { 1 ≤ settings.now.port }
-    requires last { settings.now.port ≤ LAST_PORT }
     requires log { W.failed log.old ≡ false }
     ensures written { OnOk result (Appends (W.taken log.old) (W.taken log.new)
         (listening_lines settings.now.address settings.now.port settings.now.sites)) }
@@ -210,8 +190,8 @@ pub fn serve_new_sites<
     ensures works { OnOk result (W.failed log.new ≡ false) }
 {
     match serve_sites(rt, alloc, settings, list, sessions, log, events) {
-        Ok(journals) => {
-            drop(journals);
+        Ok(ends) => {
+            drop(ends);
             Ok(())
         }
         Err(fault) => Err(ServiceFault::Server(fault)),

@@ -11,4 +11,4 @@ returns-in-Ok-run_sites g c =
     let end = first_of_one c.in-Ok-run_sites.ends.items one in
     let site = first_pushed _ _ _ none c.push_reserved.ensures.items in
     let ended = c.in-Ok-run_sites.ensures.ends 0 _ end.0 site end.1 in
-    subst (IsLinkedJournal c.args.replica) (sym (c.end_of.ensures end.0 end.1)) (record { of_site = ended.own_site; limit = ended.limit_is; begun = ended.begun })
+    subst (IsLinkedJournal c.args.site.replica) (sym (c.end_of.ensures end.0 end.1)) (record { of_site = ended.own_site; limit = ended.limit_is; begun = ended.begun })

@@ -1,9 +1,10 @@
-use Rattle.std.proofs.Common.{rules, ◌≡◌, ◌∙◌, ◌⊎◌, ⊎_elim, ap, refl}
+use Rattle.std.proofs.Common.{rules, ◌≡◌, ◌∙◌, ◌⊎◌, ap, refl}
 use Rattle.pass_desk.specs.RingingDesks.{inner_desk}
 use Rattle.pass_desk.specs.declared.ringing_desk.RingingDesk.{RingingDesk}
 use Rattle.site_desk.specs.Passes.{PassState}
 use Rattle.stored_desk.specs.Failing.{HasDoneUnanswered}
 use Rattle.stored_pass_desk.specs.StoredPassDesks.{AnswersByStoredPass}
+use Rattle.stored_pass_desk.proofs.PortCalls.{unanswered_kept}
 use Rattle.serving_clients.proofs.AnsweringLemmas.{clients_keep}
 use Rattle.linked_site.proofs.stored_working.answer_by.Goals as goal
 
@@ -17,7 +18,7 @@ returns g c =
     (λ d. refl) (λ d mid e first then. then ∙ first)
     (record {
       answer = λ d e ask answer is. ap (λ (p : PassState). p.ordinal) is.done.counted;
-      refusal = λ d e ask is. ⊎_elim (λ same. ap (λ (p : PassState). p.ordinal) same) (λ done. ap (λ (p : PassState). p.ordinal) done.done.counted) is;
+      refusal = λ d e ask is. unanswered_kept g.L.SiteLedger.base (inner_desk d) (inner_desk e) is;
     })
     _ _ c.answer.ensures in
     search rules

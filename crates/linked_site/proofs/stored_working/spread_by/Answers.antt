@@ -1,6 +1,6 @@
 use Rattle.std.proofs.Common.{rules}
 use Rattle.stored_desk.specs.StoredPorts.{lent_pass}
-use Rattle.linked_site.proofs.KeepingCalls.{stored_port_called}
+use Rattle.stored_pass_desk.proofs.PortCalls.{stored_port_called}
 use Rattle.linked_site.proofs.stored_working.spread_by.Goals as goal
 
 -- the port has called by its pass alone

@@ -1,4 +1,5 @@
-use Rattle.linked_site.proofs.KeepingCalls.{given_back, turns_called}
+use Rattle.stored_pass_desk.proofs.KeepingCalls.{given_back}
+use Rattle.linked_site.proofs.TurnCalls.{turns_called}
 use Rattle.linked_site.proofs.working.hear.Goals as goal
 
 pub returns : goal.returns

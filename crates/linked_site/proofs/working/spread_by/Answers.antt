@@ -1,6 +1,6 @@
 use Rattle.std.proofs.Common.{rules}
 use Rattle.site_desk.specs.Ports.{lent_pass}
-use Rattle.linked_site.proofs.KeepingCalls.{desk_port_called}
+use Rattle.stored_pass_desk.proofs.PortCalls.{desk_port_called}
 use Rattle.linked_site.proofs.working.spread_by.Goals as goal
 
 -- the port has called by its pass alone

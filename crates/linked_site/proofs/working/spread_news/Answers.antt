@@ -1,5 +1,5 @@
 use Rattle.site_pumps.proofs.Calling.{called_none}
-use Rattle.linked_site.proofs.KeepingCalls.{given_back}
+use Rattle.stored_pass_desk.proofs.KeepingCalls.{given_back}
 use Rattle.linked_site.proofs.working.spread_news.Goals as goal
 
 -- no call

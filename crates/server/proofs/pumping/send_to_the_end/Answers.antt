@@ -16,8 +16,8 @@ loop-preserved-in-Ok g c = called_then g.P.Port.makes g.P.Port.refuses _ _ _ c.l
 pub returns-in-Err-Unsaved-clause-calls : goal.returns-in-Err-Unsaved-clause-calls
 returns-in-Err-Unsaved-clause-calls g c = called_then g.P.Port.makes g.P.Port.refuses _ _ _ c.loop.invariant (called_work g.P.Port.makes g.P.Port.refuses _ _ _ _ c.broadcast.ensures.broadcast.5.work)
 
-pub returns-in-None-recover : goal.returns-in-None-recover
-returns-in-None-recover g c = let sent = called_then g.P.Port.makes g.P.Port.refuses _ _ _ c.loop.invariant (called_work g.P.Port.makes g.P.Port.refuses _ _ _ _ c.broadcast.ensures.broadcast.5.work) in search rules
+pub returns-then-has_bell_ended-2 : goal.returns-then-has_bell_ended-2
+returns-then-has_bell_ended-2 g c = let sent = called_then g.P.Port.makes g.P.Port.refuses _ _ _ c.loop.invariant (called_work g.P.Port.makes g.P.Port.refuses _ _ _ _ c.broadcast.ensures.broadcast.5.work) in search rules
 
 pub loop-preserved : goal.loop-preserved
 loop-preserved g c = called_then g.P.Port.makes g.P.Port.refuses _ _ _ c.loop.invariant (called_work g.P.Port.makes g.P.Port.refuses _ _ _ _ c.broadcast.ensures.broadcast.5.work)

@@ -1,20 +1,6 @@
-use Rattle.site_pumps.proofs.Calling.{called_none, called_then, called_work}
+use Rattle.stored_pass_desk.proofs.KeepingCalls.{given_back}
 use Rattle.server.proofs.pumping.take_news.Goals as goal
 
--- no call yet
-pub loop-init : goal.loop-init
-loop-init g c = called_none g.P.Port.makes g.P.Port.refuses c.args.port.now
-
--- then the calls of one pump
-pub returns-in_default-clause-calls : goal.returns-in_default-clause-calls
-returns-in_default-clause-calls g c = called_then g.P.Port.makes g.P.Port.refuses _ _ _ c.loop.invariant (called_work g.P.Port.makes g.P.Port.refuses _ _ _ _ c.pump_in-fault.ensures.pumped.work)
-
--- and perhaps one call more
-pub loop-preserved-in-Err : goal.loop-preserved-in-Err
-loop-preserved-in-Err g c = called_then g.P.Port.makes g.P.Port.refuses _ _ _ (called_then g.P.Port.makes g.P.Port.refuses _ _ _ c.loop.invariant (called_work g.P.Port.makes g.P.Port.refuses _ _ _ _ c.pump_in-fault.ensures.pumped.work)) c.take_again.ensures
-
-pub returns-then-ends_site-clause-calls : goal.returns-then-ends_site-clause-calls
-returns-then-ends_site-clause-calls g c = called_then g.P.Port.makes g.P.Port.refuses _ _ _ (called_then g.P.Port.makes g.P.Port.refuses _ _ _ c.loop.invariant (called_work g.P.Port.makes g.P.Port.refuses _ _ _ _ c.pump_in-fault.ensures.pumped.work)) c.take_again.ensures
-
-pub loop-preserved : goal.loop-preserved
-loop-preserved g c = called_then g.P.Port.makes g.P.Port.refuses _ _ _ (called_then g.P.Port.makes g.P.Port.refuses _ _ _ c.loop.invariant (called_work g.P.Port.makes g.P.Port.refuses _ _ _ _ c.pump_in-fault.ensures.pumped.work)) c.take_again.ensures
+-- a port that keeps the journal has called this one
+pub returns-clause-calls : goal.returns-clause-calls
+returns-clause-calls g c = given_back g.P.Port.makes g.P.Port.refuses _ _ _ _ c.new-keeping.ensures.port c.into_inner.ensures c.take_to_the_end-taken.ensures.calls

@@ -1,4 +1,4 @@
-use Rattle.std.proofs.Common.{rules, ◌≡◌, ◌+◌, Some, arith, length, slice_get, subst, vec_len}
+use Rattle.std.proofs.Common.{rules, ◌≡◌, ◌+◌, Some, arith, slice_get, subst, sym, vec_len}
 use Rattle.launcher.specs.Places.{AtEach}
 use Rattle.stored_threads.specs.declared.stored_site_tasks.StoredSiteTasks.{StoredSiteTasks}
 use Rattle.server.specs.ServedStores.{HasItsStart}
@@ -8,56 +8,39 @@ use Rattle.server.specs.declared.stored_working.StoredSiteTask.{StoredSiteTask}
 use Rattle.server.proofs.PlaceLemmas.{each_from, each_front, each_itself, each_none, each_pop}
 use Rattle.server.proofs.stored_serving.stored_sites_of.Goals as goal
 
--- no site yet, and all listeners are left
-pub loop-listener-init : goal.loop-listener-init
-loop-listener-init g c = (
-  omega (arith, c.in-Ok.ensures.len),
+-- no site yet, and all starts are left
+pub loop-start-init : goal.loop-start-init
+loop-start-init g c = (
+  omega (arith, c.in-Ok-with_capacity.ensures.len),
   search rules,
-  c.requires.starts,
-  c.requires.links.to,
-  c.requires.links.from,
-  c.requires.links.from_others,
+  sym c.requires.starts,
   each_itself c.args.starts.items,
-  each_none (λ k (site : StoredSiteTasks g.row.D.Denot StoredSite StoredSiteTask). HasItsStart c.args.starts.items (vec_len c.args.listeners + k) site) c.in-Ok.sites.items (omega (arith, c.in-Ok.ensures.len, c.in-Ok.sites.ok.0)),
+  each_none (λ k (site : StoredSiteTasks g.row.D.Denot StoredSite StoredSiteTask). HasItsStart c.args.starts.items (vec_len c.args.starts + k) site) c.in-Ok-with_capacity.sites.items (omega (arith, c.in-Ok-with_capacity.ensures.len, c.in-Ok-with_capacity.sites.ok.0)),
 )
 
--- a site has few peers
-pub stored_launch_of-requires-clause-links : goal.stored_launch_of-requires-clause-links
-stored_launch_of-requires-clause-links g c =
-    let others = each_pop (λ k from. vec_len from + 1 ≡ vec_len c.args.listeners) c.loop-listener.links.from.items c.pop-in-Some-2.new.self.from.items c.in-Some-pop-2.ends.from c.in-Some-pop-2.ensures.from c.loop-listener.invariant.5 in
-    omega (arith, others.1, c.requires.few)
-
--- the site of one listener more
-pub loop-listener-preserved : goal.loop-listener-preserved
-loop-listener-preserved g c =
-    let was = c.loop-listener.invariant in
+-- the site of one start more
+pub loop-start-preserved : goal.loop-start-preserved
+loop-start-preserved g c =
+    let was = c.loop-start.invariant in
     let less = c.in-Some.ensures.cases in
     let fewer = c.in-Some-pop.ensures.cases in
-    let left = c.in-Some-pop-2.ensures.left in
-    let others = each_pop (λ k from. vec_len from + 1 ≡ vec_len c.args.listeners) c.loop-listener.links.from.items c.pop-in-Some-2.new.self.from.items c.in-Some-pop-2.ends.from c.in-Some-pop-2.ensures.from was.5 in
-    let starts = each_pop (λ place (start : StoredStart g.row.D.Denot). slice_get c.args.starts.items place ≡ Some start) c.loop-listener.starts.items c.pop-in-Some.new.self.items c.in-Some-pop.start c.in-Some-pop.ensures.items was.6 in
-    let made = c.in-Ok-stored_launch_of.ensures in
-    let place = vec_len c.pop.new.self in
-    let at_start : length c.pop-in-Some.new.self.items ≡ place = omega (arith, fewer, was.2, less, c.pop-in-Some.new.self.ok.0) in (
+    let starts = each_pop (λ place (start : StoredStart g.row.D.Denot). slice_get c.args.starts.items place ≡ Some start) c.loop-start.starts.items c.pop.new.self.items c.in-Some.start c.in-Some.ensures.items was.3 in
+    let made = c.in-Ok-stored_site_of.ensures in
+    let place = vec_len c.pop.new.self in (
       omega (arith, c.insert_first.ensures.len, was.0, less),
       (let e = c.insert_first.ensures.capacity in omega (arith, e, was.1)),
       omega (arith, fewer, was.2, less),
-      (let e = left.0 in omega (arith, e, was.3, less)),
-      (let e = left.1 in omega (arith, e, was.4, less)),
-      others.0,
       starts.0,
-      each_front (λ at (one : StoredSiteTasks g.row.D.Denot StoredSite StoredSiteTask). HasItsStart c.args.starts.items at one) c.loop-listener.sites.items c.insert_first.new.list.items _ place c.insert_first.ensures.items
-          (subst (λ n. AtEach (λ k (one : StoredSiteTasks g.row.D.Denot StoredSite StoredSiteTask). HasItsStart c.args.starts.items (n + k) one) c.loop-listener.sites.items) (omega (arith, less)) was.7)
+      each_front (λ at (one : StoredSiteTasks g.row.D.Denot StoredSite StoredSiteTask). HasItsStart c.args.starts.items at one) c.loop-start.sites.items c.insert_first.new.list.items _ place c.insert_first.ensures.items
+          (subst (λ n. AtEach (λ k (one : StoredSiteTasks g.row.D.Denot StoredSite StoredSiteTask). HasItsStart c.args.starts.items (n + k) one) c.loop-start.sites.items) (omega (arith, less)) was.4)
           (record {
-            start = c.in-Some-pop.start;
-            stands = subst (λ n. slice_get c.args.starts.items n ≡ Some c.in-Some-pop.start) at_start starts.1;
+            start = c.in-Some.start;
+            stands = subst (λ n. slice_get c.args.starts.items n ≡ Some c.in-Some.start) (sym c.pop.new.self.ok.0) starts.1;
             replica_is = made.replica;
             store_is = made.store;
-            some = omega (arith, made.len);
-            few = omega (arith, made.len, others.1, c.requires.few, c.requires.places);
           }),
     )
 
 pub returns-clause-each : goal.returns-clause-each
-returns-clause-each g c = let none : vec_len c.loop-listener.listeners ≡ 0 = search rules in
-    each_from (λ at (one : StoredSiteTasks g.row.D.Denot StoredSite StoredSiteTask). HasItsStart c.args.starts.items at one) c.loop-listener.sites.items (vec_len c.loop-listener.listeners) none c.loop-listener.invariant.7
+returns-clause-each g c = let none : vec_len c.loop-start.starts ≡ 0 = search rules in
+    each_from (λ at (one : StoredSiteTasks g.row.D.Denot StoredSite StoredSiteTask). HasItsStart c.args.starts.items at one) c.loop-start.sites.items (vec_len c.loop-start.starts) none c.loop-start.invariant.4

@@ -1,19 +1,15 @@
-use Rattle.std.specs.List.{All}
 use Rattle.std.proofs.Common.{◌≡◌, ◌+◌, ◌≤◌, Some, slice_get, vec_capacity, vec_len}
 use Rattle.launcher.specs.Places.{AtEach}
 use Rattle.server.specs.ServedStores.{HasItsStart}
 use Rattle.server.proofs.stored_serving.stored_sites_of.Given as goal
 
--- the listeners that are left are the first ones, with their starts and links, and the sites are those of the others
-abbrev pub invariant-loop-listener : goal.invariant-loop-listener
-invariant-loop-listener g l = (vec_len l.sites + vec_len l.listeners ≡ vec_len l.fn.listeners)
-    × (vec_len l.fn.listeners ≤ vec_capacity l.sites)
-    × (vec_len l.starts ≡ vec_len l.listeners)
-    × (vec_len l.links.to ≡ vec_len l.listeners)
-    × (vec_len l.links.from ≡ vec_len l.listeners)
-    × All (λ from. vec_len from + 1 ≡ vec_len l.fn.listeners) l.links.from.items
+-- the starts that are left are the first ones, with what is ready for them, and the sites are those of the others
+abbrev pub invariant-loop-start : goal.invariant-loop-start
+invariant-loop-start g l = (vec_len l.sites + vec_len l.starts ≡ vec_len l.fn.starts)
+    × (vec_len l.fn.starts ≤ vec_capacity l.sites)
+    × (vec_len l.ready ≡ vec_len l.starts)
     × AtEach (λ place start. slice_get l.fn.starts.items place ≡ Some start) l.starts.items
-    × AtEach (λ k site. HasItsStart l.fn.starts.items (vec_len l.listeners + k) site) l.sites.items
+    × AtEach (λ k site. HasItsStart l.fn.starts.items (vec_len l.starts + k) site) l.sites.items
 
-abbrev pub decreases-loop-listener : goal.decreases-loop-listener
-decreases-loop-listener g l = vec_len l.listeners
+abbrev pub decreases-loop-start : goal.decreases-loop-start
+decreases-loop-start g l = vec_len l.starts

@@ -5,7 +5,7 @@ use Rattle.serving_clients.proofs.AnsweringLemmas.{clients_keep}
 use Rattle.site_desk.specs.Passes.{PassState}
 use Rattle.stored_desk.specs.Failing.{HasDoneUnanswered}
 use Rattle.stored_pass_desk.specs.StoredPassDesks.{AnswersByStoredPass}
-use Rattle.server.proofs.PortCalls.{unanswered_kept}
+use Rattle.stored_pass_desk.proofs.PortCalls.{unanswered_kept}
 use Rattle.server.proofs.stored_working.answer_by.Goals as goal
 
 -- each answer keeps the number of the pass, and so does each refusal

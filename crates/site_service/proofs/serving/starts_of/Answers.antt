@@ -2,7 +2,7 @@ use Rattle.std.specs.List.{All}
 use Rattle.std.proofs.Common.{◌≡◌, ◌++◌, ◌∷◌, List, [], arith, rules, subst, sym}
 use Rattle.std.proofs.lemmas.List.Elements.{All-push}
 use Rattle.launcher.proofs.PlaceLemmas.{each_push}
-use Rattle.replica.specs.Site.{IsSameSite}
+use Rattle.stored_threads.specs.NewStores.{IsNewStore}
 use Rattle.server.specs.declared.stored_start.StoredStart.{StoredStart}
 use Rattle.site_service.proofs.serving.starts_of.Goals as goal
 
@@ -24,7 +24,5 @@ loop-number-preserved g c =
       (let e = c.push_reserved.ensures.capacity in omega (arith, e, was.1)),
       each_push (λ place (it : StoredStart g.row.D.Denot). it.replica.site ≡ place) starts all start is was.2 (omega (arith, made.site, number, was.0, c.loop-number.starts.ok.0)),
       all_push (λ (it : StoredStart g.row.D.Denot). it.replica.names ≡ c.args.list.now) starts all start is was.3 made.names,
-      all_push (λ (it : StoredStart g.row.D.Denot). IsSameSite (g.D.StepStore.begun it.store) it.replica) starts all start is was.4 made.begun,
-      all_push (λ (it : StoredStart g.row.D.Denot). g.D.StepStore.holds it.store []) starts all start is was.5 made.holds,
-      all_push (λ (it : StoredStart g.row.D.Denot). g.D.StepStore.keeps it.store []) starts all start is was.6 made.keeps,
+      all_push (λ (it : StoredStart g.row.D.Denot). IsNewStore g.D.StepStore.holds g.D.StepStore.keeps g.D.StepStore.begun it.replica it.store) starts all start is was.4 made.new,
     )
