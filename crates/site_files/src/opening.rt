@@ -1,19 +1,18 @@
 //! Opens the file of a site's store.
 ghost use Rattle.std.specs.Prelude.{◌≡◌, ◌≢◌, ◌≤◌, ◌++◌, ◌∷◌, [], ℕ, List, IfOk, IsTrue, codes};
 ghost use Rattle.std.specs.Prelude.{decimal, false, string_bytes, true};
-ghost use Rattle.sqlite.specs.Files.{HoldsDatabase, file_state};
+ghost use Rattle.sqlite.specs.Files.{file_state};
 ghost use Rattle.sqlite.specs.Held.{state};
 ghost use Rattle.sqlite.specs.State.{HasCleanDisk};
-ghost use Rattle.sqlite.specs.Tree.{Trees};
 ghost use Rattle.sqlite.specs.WalFiles.{image_at};
 ghost use Rattle.replica.specs.Deeds.{IsNew};
-ghost use Rattle.replica.specs.Site.{IsSameSite, SiteState};
+ghost use Rattle.replica.specs.Site.{SiteState};
 ghost use Rattle.site_journal.specs.declared.journaled.TheConstants.{MOST_STEPS};
 ghost use Rattle.stored_steps.specs.Bases.{IsRowOfBase};
 ghost use Rattle.stored_steps.specs.StartRows.{start_row};
 ghost use Rattle.stored_steps.specs.Stored.{Stored};
-ghost use Rattle.site_store.specs.Steps.{Holds, Lists, kept_schema};
-ghost use Rattle.step_database.specs.Databases.{Keeps, Stores};
+ghost use Rattle.site_store.specs.Steps.{Holds};
+ghost use Rattle.site_files.specs.Opened.{AddsStart, GoesOn, IsFirstStart};
 
 use crate::{OpenedFile, SiteFile, SiteFileFault};
 use dots::{Memory, SiteId};
@@ -37,13 +36,14 @@ pub fn file_of_site(alloc: Global, folder: &str, site: SiteId) -> Result<String,
     Ok(path)
 }
 
-// The name of the log of a file.
+// The name of the log of a file: `PATH-wal`. Fails only when out of memory. No contract says which name.
 fn log_of(alloc: Global, path: &str) -> Result<String, Memory> {
     let log = format!(in alloc; "{path}-wal")?;
     Ok(log)
 }
 
-// The site that goes on over a connection, and its store, which is new or not.
+// The site that goes on over a connection, and its store, which is new as `is_new` says. Errors, in order: those of `StepDatabase::resume`;
+// `Memory` for a copy of the site, after which the row of this start stands.
 fn resume_connection<S: Alter + Drop>(
     alloc: Global,
     conn: Connection<S>,
@@ -55,23 +55,14 @@ fn resume_connection<S: Alter + Drop>(
 ) -> Result<SiteFile<StepDatabase<S>>, OpenFault>
     requires some { 1 ≤ limit }
     requires most { limit ≤ MOST_STEPS }
-    ensures site { IfOk result (λ it. it.replica.site ≡ site) }
-    ensures names { IfOk result (λ it. it.replica.names ≡ list.now) }
-    ensures begun { IfOk result (λ it. IsSameSite it.store.origin.begun it.replica) }
-    ensures name { IfOk result (λ it. it.name ≡ it.store.origin.name) }
-    ensures starts { IfOk result (λ it. it.starts ≡ it.store.origin.starts) }
+    ensures goes_on { IfOk result (λ it. GoesOn site list.now keeps
+        (state S.Store it.store.conn) it) }
     ensures rows { IfOk result (λ it. HasCleanDisk (state S.Store it.store.conn)
         → (first : ℕ) (rows : List Stored)
         → Holds (state S.Store conn) first rows → rows ≢ []
         → Holds (state S.Store it.store.conn) first (rows ++ start_row ∷ [])) }
     ensures clean { IfOk result (λ it. HasCleanDisk (state S.Store it.store.conn)
         → HasCleanDisk (state S.Store conn)) }
-    ensures holds { IfOk result (λ it. HasCleanDisk (state S.Store it.store.conn)
-        → Stores (state S.Store it.store.conn) it.store.origin it.store.next []) }
-    ensures keeps { IfOk result (λ it. HasCleanDisk (state S.Store it.store.conn)
-        → Keeps (state S.Store it.store.conn) it.store.origin []) }
-    ensures kept { IfOk result (λ it. HasCleanDisk (state S.Store it.store.conn) → IsTrue keeps
-        → (state S.Store it.store.conn).now.schema ≡ kept_schema) }
     ensures is_new { IfOk result (λ it. it.is_new ≡ is_new) }
 {
     let (store, journal) = StepDatabase::resume(alloc, conn, site, list, limit, keeps)?;
@@ -99,7 +90,7 @@ fn resume_connection<S: Alter + Drop>(
 ///
 /// Errors, in order: those of `open` of `site_store`, of which `Blank` leaves a file without a table where none was; those of `resume`
 /// of `site_store`, and those of its `keep_rows`, after which the row of this start stands. The other rows stay at each of these. `Memory`
-/// may stand in place of each but `InUse` and `CannotOpen`.
+/// may replace each. After it, and after an error of `resume`, the row of this start may stand too.
 pub fn resume_site_file<S: Start>(
     rt: &HostRuntime,
     path: &str,
@@ -111,30 +102,18 @@ pub fn resume_site_file<S: Start>(
 ) -> Result<OpenedFile<S>, OpenFault>
     requires some { 1 ≤ limit }
     requires most { limit ≤ MOST_STEPS }
-    ensures site { IfOk result (λ it. it.replica.site ≡ site) }
-    ensures names { IfOk result (λ it. it.replica.names ≡ list.now) }
-    ensures begun { IfOk result (λ it. IsSameSite it.store.origin.begun it.replica) }
-    ensures name { IfOk result (λ it. it.name ≡ it.store.origin.name) }
-    ensures starts { IfOk result (λ it. it.starts ≡ it.store.origin.starts) }
+    ensures goes_on { IfOk result (λ it. GoesOn site list.now keeps
+        (file_state it.store.conn) it) }
     // The store has the rows that the file held, and then that of this start.
-    ensures rows { IfOk result (λ it. HasCleanDisk (file_state it.store.conn)
-        → (db : Trees) (first : ℕ) (rows : List Stored)
-        → HoldsDatabase (image_at S.Start) db → Lists (db 0) first rows → rows ≢ []
-        → Holds (file_state it.store.conn) first (rows ++ start_row ∷ [])) }
-    ensures holds { IfOk result (λ it. HasCleanDisk (file_state it.store.conn)
-        → Stores (file_state it.store.conn) it.store.origin it.store.next []) }
-    ensures keeps { IfOk result (λ it. HasCleanDisk (file_state it.store.conn)
-        → Keeps (file_state it.store.conn) it.store.origin []) }
-    // If the caller wants it, the store keeps the rows in whose place a base is put.
-    ensures kept { IfOk result (λ it. HasCleanDisk (file_state it.store.conn) → IsTrue keeps
-        → (file_state it.store.conn).now.schema ≡ kept_schema) }
+    ensures rows { IfOk result (λ it. AddsStart (image_at S.Start) (file_state it.store.conn)) }
     ensures is_new { IfOk result (λ it. it.is_new ≡ false) }
 {
     let conn = open(rt, path, start)?;
     resume_connection(rt.alloc(), conn, site, list, limit, keeps, false)
 }
 
-// The row of the base of a new site with these queues, over a store that has this name and was never started.
+// The row of the base of a new site with these queues, over a store that has this name and was never started. Fails only when out of
+// memory.
 fn new_base(
     alloc: Global,
     site: SiteId,
@@ -151,10 +130,11 @@ fn new_base(
 }
 
 /// Makes the store of a new site, with these queues, in a file at a path that is missing or has no table yet. The store's name is 16 random
-/// bytes. The row of this start is added, in a commit of its own. `keeps` is as `resume_site_file` has it.
+/// bytes. The row of this start is added, in a commit of its own. `limit` and `keeps` are as `resume_site_file` has them.
 ///
 /// Errors, in order: `NoName`; `Open`, with the errors of `open_new` of `site_store`, or, if the file fails thereafter, those of `resume`
-/// and `keep_rows` of `site_store`. `Open` with `Memory` may stand in place of each.
+/// and `keep_rows` of `site_store`. `Open` with `Memory` may replace each. After an `Open` the file may be there, with or without
+/// its table.
 pub fn new_site_file<S: Start>(
     rt: &HostRuntime,
     path: &str,
@@ -166,23 +146,10 @@ pub fn new_site_file<S: Start>(
 ) -> Result<OpenedFile<S>, SiteFileFault>
     requires some { 1 ≤ limit }
     requires most { limit ≤ MOST_STEPS }
-    ensures site { IfOk result (λ it. it.replica.site ≡ site) }
-    ensures names { IfOk result (λ it. it.replica.names ≡ list.now) }
-    ensures begun { IfOk result (λ it. IsSameSite it.store.origin.begun it.replica) }
-    ensures name { IfOk result (λ it. it.name ≡ it.store.origin.name) }
-    ensures starts { IfOk result (λ it. it.starts ≡ it.store.origin.starts) }
-    ensures holds { IfOk result (λ it. HasCleanDisk (file_state it.store.conn)
-        → Stores (file_state it.store.conn) it.store.origin it.store.next []) }
-    ensures keeps { IfOk result (λ it. HasCleanDisk (file_state it.store.conn)
-        → Keeps (file_state it.store.conn) it.store.origin []) }
-    // If the caller wants it, the store keeps the rows in whose place a base is put.
-    ensures kept { IfOk result (λ it. HasCleanDisk (file_state it.store.conn) → IsTrue keeps
-        → (file_state it.store.conn).now.schema ≡ kept_schema) }
+    ensures goes_on { IfOk result (λ it. GoesOn site list.now keeps
+        (file_state it.store.conn) it) }
     // The site is a new one, at its first start.
-    ensures new { IfOk result (λ it. HasCleanDisk (file_state it.store.conn)
-        → (fresh : SiteState) × IsNew fresh × IsSameSite fresh it.replica) }
-    ensures first { IfOk result (λ it. HasCleanDisk (file_state it.store.conn)
-        → it.starts ≡ 1) }
+    ensures first { IfOk result (λ it. HasCleanDisk (file_state it.store.conn) → IsFirstStart it) }
     ensures is_new { IfOk result (λ it. it.is_new ≡ true) }
 {
     let mut name = [0u8; NAME_BYTES];
@@ -205,12 +172,13 @@ pub fn new_site_file<S: Start>(
     }
 }
 
-// Whether no file is at a path.
+// Whether no file is at a path. If the system doesn't say, the answer is `false`. No contract says this.
 fn is_missing(rt: &HostRuntime, path: &str) -> bool {
     matches!(fs::exists(rt, path), Ok(false))
 }
 
-// Whether a file at a path has no bytes, or one, which a database takes for none.
+// Whether a file at a path has no bytes, or one, which a database takes for none. If the system doesn't say, the answer is `false`. No
+// contract says this.
 fn is_empty(rt: &HostRuntime, path: &str) -> bool {
     match fs::metadata(rt, path) {
         Ok(found) => found.len() <= 1,
@@ -218,7 +186,8 @@ fn is_empty(rt: &HostRuntime, path: &str) -> bool {
     }
 }
 
-// Whether a fault leaves the files of a store that could not be made: the database failed, or no byte could be written.
+// Whether the files of a store that could not be made for this fault are to be removed: the database failed, or it can't be opened and
+// the file at the path has at most one byte. No contract says this.
 fn leaves_files(rt: &HostRuntime, path: &str, fault: &OpenFault) -> bool {
     match fault {
         OpenFault::Database(_) => true,
@@ -227,60 +196,20 @@ fn leaves_files(rt: &HostRuntime, path: &str, fault: &OpenFault) -> bool {
     }
 }
 
-// Removes the files of a store that could not be made. A failure leaves them, without a table.
+// Removes the file at a path and its log, of a store that could not be made. A failure leaves them. No contract says this.
 fn remove_files(rt: &HostRuntime, path: &str, log: &str) {
     let _ = fs::remove_file(rt, path);
     let _ = fs::remove_file(rt, log);
 }
 
-// The site whose store is the file at a path, which exists.
-fn open_old_file<S: Start>(
-    rt: &HostRuntime,
-    path: &str,
-    start: S,
-    site: SiteId,
-    list: &QueueList,
-    limit: u32,
-    keeps: bool,
-) -> Result<OpenedFile<S>, OpenFault>
-    requires some { 1 ≤ limit }
-    requires most { limit ≤ MOST_STEPS }
-    ensures site { IfOk result (λ it. it.replica.site ≡ site) }
-    ensures names { IfOk result (λ it. it.replica.names ≡ list.now) }
-    ensures begun { IfOk result (λ it. IsSameSite it.store.origin.begun it.replica) }
-    ensures name { IfOk result (λ it. it.name ≡ it.store.origin.name) }
-    ensures starts { IfOk result (λ it. it.starts ≡ it.store.origin.starts) }
-    ensures holds { IfOk result (λ it. HasCleanDisk (file_state it.store.conn)
-        → Stores (file_state it.store.conn) it.store.origin it.store.next []) }
-    ensures keeps { IfOk result (λ it. HasCleanDisk (file_state it.store.conn)
-        → Keeps (file_state it.store.conn) it.store.origin []) }
-    // If the caller wants it, the store keeps the rows in whose place a base is put.
-    ensures kept { IfOk result (λ it. HasCleanDisk (file_state it.store.conn) → IsTrue keeps
-        → (file_state it.store.conn).now.schema ≡ kept_schema) }
-    ensures rows { IfOk result (λ it. HasCleanDisk (file_state it.store.conn)
-        → (db : Trees) (first : ℕ) (rows : List Stored)
-        → HoldsDatabase (image_at S.Start) db → Lists (db 0) first rows → rows ≢ []
-        → Holds (file_state it.store.conn) first (rows ++ start_row ∷ [])) }
-    ensures is_new { IfOk result (λ it. it.is_new ≡ false) }
-{
-    if is_empty(rt, path) {
-        drop(start);
-        return Err(OpenFault::NoStore);
-    }
-    match resume_site_file(rt, path, start, site, list, limit, keeps) {
-        Err(OpenFault::Blank) => Err(OpenFault::NoStore),
-        other => other,
-    }
-}
-
-/// The site whose store is the file at a path, with these queues, as `resume_site_file` has it. Where neither the file nor its log (`PATH-wal`) is
-/// there, it makes a new site in that file, as `new_site_file` does.
+/// The site whose store is the file at a path, with these queues, as `resume_site_file` has it. Where neither the file nor its log
+/// (`PATH-wal`) is there, it makes a new site in that file, as `new_site_file` does.
 ///
-/// Errors, in order: `Open` with `NoStore`, if only the log is there, or the file has at most one byte or no table: it may have been a
-/// store, and a new site of its number would make dots that others have; `Open`, with the errors of `resume_site_file` except `Blank`; those
-/// of `new_site_file`, and if the database failed, or no byte could be written, the new files are removed. `Open` with `Memory` may stand in
-/// place of each. A store that is refused keeps its rows. After `Memory`, or a crash while the file is made, a file without a table may be
-/// left: each later call says `NoStore` until the file and its log are removed.
+/// Errors, in order: `Open` with `NoStore`, if only the log is there, or the system doesn't say whether it is, or the file has at most one
+/// byte or no table: it may have been a store, and a new site of its number would make dots that others have; `Open`, with the errors of
+/// `resume_site_file` except `Blank`; those of `new_site_file`, and if the database failed, or no byte could be written, the new files are
+/// removed. `Open` with `Memory` may replace each. A store that is refused keeps its rows. After `Memory`, or a crash while the file is
+/// made, a file without a table may be left: each later call says `NoStore` until the file and its log are removed.
 pub fn open_site_file<S: Start>(
     rt: &HostRuntime,
     path: &str,
@@ -292,33 +221,23 @@ pub fn open_site_file<S: Start>(
 ) -> Result<OpenedFile<S>, SiteFileFault>
     requires some { 1 ≤ limit }
     requires most { limit ≤ MOST_STEPS }
-    ensures site { IfOk result (λ it. it.replica.site ≡ site) }
-    ensures names { IfOk result (λ it. it.replica.names ≡ list.now) }
-    ensures begun { IfOk result (λ it. IsSameSite it.store.origin.begun it.replica) }
-    ensures name { IfOk result (λ it. it.name ≡ it.store.origin.name) }
-    ensures starts { IfOk result (λ it. it.starts ≡ it.store.origin.starts) }
-    ensures holds { IfOk result (λ it. HasCleanDisk (file_state it.store.conn)
-        → Stores (file_state it.store.conn) it.store.origin it.store.next []) }
-    ensures keeps { IfOk result (λ it. HasCleanDisk (file_state it.store.conn)
-        → Keeps (file_state it.store.conn) it.store.origin []) }
-    // If the caller wants it, the store keeps the rows in whose place a base is put.
-    ensures kept { IfOk result (λ it. HasCleanDisk (file_state it.store.conn) → IsTrue keeps
-        → (file_state it.store.conn).now.schema ≡ kept_schema) }
+    ensures goes_on { IfOk result (λ it. GoesOn site list.now keeps
+        (file_state it.store.conn) it) }
     // A store that isn't new has the rows that the file held, and then that of this start.
     ensures rows { IfOk result (λ it. it.is_new ≡ false
-        → HasCleanDisk (file_state it.store.conn)
-        → (db : Trees) (first : ℕ) (rows : List Stored)
-        → HoldsDatabase (image_at S.Start) db → Lists (db 0) first rows → rows ≢ []
-        → Holds (file_state it.store.conn) first (rows ++ start_row ∷ [])) }
+        → AddsStart (image_at S.Start) (file_state it.store.conn)) }
     // A new one is of a new site, at its first start.
-    ensures new { IfOk result (λ it. IsTrue it.is_new → HasCleanDisk (file_state it.store.conn)
-        → (fresh : SiteState) × IsNew fresh × IsSameSite fresh it.replica) }
     ensures first { IfOk result (λ it. IsTrue it.is_new
-        → HasCleanDisk (file_state it.store.conn) → it.starts ≡ 1) }
+        → HasCleanDisk (file_state it.store.conn) → IsFirstStart it) }
 {
     if !is_missing(rt, path) {
-        return match open_old_file(rt, path, start, site, list, limit, keeps) {
+        if is_empty(rt, path) {
+            drop(start);
+            return Err(SiteFileFault::Open(OpenFault::NoStore));
+        }
+        return match resume_site_file(rt, path, start, site, list, limit, keeps) {
             Ok(file) => Ok(file),
+            Err(OpenFault::Blank) => Err(SiteFileFault::Open(OpenFault::NoStore)),
             Err(fault) => Err(SiteFileFault::Open(fault)),
         };
     }

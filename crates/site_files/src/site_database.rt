@@ -11,6 +11,7 @@ use stored_desk::{CommitFault, Growth, StepStore};
 use stored_steps::StoredRow;
 
 /// The store of a site in a file, as a program names it. It supposes that a torn write leaves each byte of the file old or new.
+/// Each call does as that of `StepDatabase`.
 #[derive(Drop)]
 pub struct SiteDatabase {
     rows: StepDatabase<FileStore<FileFrom<Unknown>>>,
@@ -18,10 +19,8 @@ pub struct SiteDatabase {
 
 impl StepStore for SiteDatabase {
     ghost use Rattle.sqlite.specs.Files.{file_state};
-    ghost use Rattle.sqlite.specs.State.{HasCleanDisk};
-    ghost use Rattle.stored_steps.specs.Bases.{IsRowOfBase};
     ghost use Rattle.step_database.specs.Standing.{AreRowsOf};
-    ghost use Rattle.step_database.specs.Databases.{Keeps, Stores};
+    ghost use Rattle.step_database.specs.Databases.{IsBaseOf, KeepsIfClean, StoresIfClean};
 
     type Group = Vec<StoredRow>;
 
@@ -29,33 +28,37 @@ impl StepStore for SiteDatabase {
 
     ghost groups = { λ group steps. AreRowsOf group.items steps };
 
-    ghost bases = { λ base site.
-        IsRowOfBase (record { replica = site; name = base.name; starts = base.starts }) base.row };
+    ghost bases = { λ base site. IsBaseOf base site };
 
-    ghost holds = { λ store list. HasCleanDisk (file_state store.rows.conn)
-        → Stores (file_state store.rows.conn) store.rows.origin store.rows.next list };
+    ghost holds = { λ store list.
+        StoresIfClean (file_state store.rows.conn) store.rows.origin store.rows.next list };
 
-    ghost keeps = { λ store list. HasCleanDisk (file_state store.rows.conn)
-        → Keeps (file_state store.rows.conn) store.rows.origin list };
+    ghost keeps = { λ store list.
+        KeepsIfClean (file_state store.rows.conn) store.rows.origin list };
 
     ghost begun = { λ store. store.rows.origin.begun };
 
+    // As that of `StepDatabase`.
     fn group(&self, steps: &[Step]) -> Result<Vec<StoredRow>, Memory> {
         self.rows.group(steps)
     }
 
+    // As that of `StepDatabase`.
     fn commit(&mut self, group: Vec<StoredRow>) -> Result<(), CommitFault> {
         self.rows.commit(group)
     }
 
+    // As that of `StepDatabase`.
     fn base(&self, site: Replica) -> Result<ReadyBase, Memory> {
         self.rows.base(site)
     }
 
+    // As that of `StepDatabase`.
     fn replace_base(&mut self, base: ReadyBase) -> Result<(), CommitFault> {
         self.rows.replace_base(base)
     }
 
+    // As that of `StepDatabase`.
     fn since_base(&self) -> Growth {
         self.rows.since_base()
     }
@@ -74,6 +77,7 @@ impl StoreInFile for SiteDatabase {
     ghost keeps_rows = { λ store. HasCleanDisk (file_state store.rows.conn)
         → (file_state store.rows.conn).now.schema ≡ kept_schema };
 
+    // Does as `open_site_file`, with its errors. Contracts know nothing of what the file held (`Unknown`).
     fn open_site(
         rt: &HostRuntime,
         place: StorePath<'_>,

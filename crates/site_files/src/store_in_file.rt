@@ -29,8 +29,9 @@ pub trait StoreInFile: StepStore {
     /// The store keeps the rows in whose place a base is put.
     ghost keeps_rows: { Self → Type 0 };
 
-    /// The site whose store is the file `place`, with these queues, and a new site where no file is. While the store's steps are done
-    /// again `limit` of them are in memory, 1 to 1,000,000. Errors are those of `open_site_file`.
+    /// The site whose store is the file `place`, with these queues, as `open_site_file` has it: a new site where neither the file nor
+    /// its log is there. While the store's steps are done again `limit` of them are in memory, 1 to 1,000,000. Errors are those of
+    /// `open_site_file`.
     fn open_site(
         rt: &HostRuntime,
         place: StorePath<'_>,

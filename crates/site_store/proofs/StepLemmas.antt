@@ -1,5 +1,5 @@
 -- What the statements do.
-use Rattle.std.proofs.Common.{◌≡◌, ◌≢◌, ◌⊎◌, inl, inr, ℕ, pos, negsuc, List, [], ◌∷◌, map, codes, Bool, true, false, not, ◌&&◌, cond, None, Ok, Err, Result, OnOk, refl, sym, ap, subst, subst₂, ◌∙◌, append-nil, arith, Option, if◌then◌else◌}
+use Rattle.std.proofs.Common.{◌≡◌, ◌≢◌, ◌⊎◌, ⊎_elim, inl, inr, ℕ, pos, negsuc, List, [], ◌∷◌, map, codes, Bool, true, false, not, ◌&&◌, cond, None, Ok, Err, Result, OnOk, refl, sym, ap, subst, subst₂, ◌∙◌, append-nil, arith, Option, if◌then◌else◌}
 use Rattle.std.specs.List.Sorted.{IsPermutation}
 use Rattle.std.proofs.lemmas.List.Sorted.{IsPermutation-refl, IsPermutation-map}
 use Rattle.sqlite.specs.declared.types.Value.{Value}
@@ -29,13 +29,13 @@ use Rattle.sqlite.specs.declared.error.Error.{Error}
 use Rattle.sqlite.specs.Listing.{understood, reads_listing}
 use Rattle.sqlite.specs.Effect.{Database}
 use Rattle.sqlite.specs.Schema.{Schema}
-use Rattle.sqlite.specs.State.{State, mode_of, Writes, Executes, Shown, Shows, CommitsBy, CommitsShowing, MayCommit, MayWrite, text_of, IsUnchanged}
+use Rattle.sqlite.specs.State.{State, mode_of, Writes, Executes, Shown, Shows, CommitsBy, CommitsShowing, HasCleanDisk, MayCommit, MayWrite, Survives, text_of, IsUnchanged}
 use Rattle.sqlite.specs.Clock.{timed}
 use Rattle.sqlite.specs.declared.run.Mode.{Mode}
 use Rattle.sqlite.specs.Collation.TheVariants.{Binary}
 use Rattle.sqlite.proofs.Callers.{IsPlain, command_of, statement_of, runs_as, reads_as, one_step, never_commits}
 use Rattle.stored_steps.specs.Stored.{Stored}
-use Rattle.site_store.specs.Steps.{step_table, step_schema, kept_schema, no_schema, shown, Holds, IsStoreSchema}
+use Rattle.site_store.specs.Steps.{step_table, step_schema, kept_schema, no_schema, shown, CommitsNothing, Holds, IsStoreSchema, OnlyReads}
 use Rattle.site_store.proofs.RowLemmas.{flat_map_single}
 
 abbrev pub create_text : List ℕ
@@ -311,6 +311,19 @@ finds_same old new rows has h = same_shown select_text old new rows (select_plai
 -- a read commits nothing
 pub commits_no_read : (s : State) (db : Trees) → IsStoreSchema s.now.schema → CommitsShowing select_text [] s db → ⊥
 commits_no_read s db has h = never_commits select_text [] s db (select_plain s.now.schema has) h
+
+-- a call leaves a crash what it left before, if it may commit nothing
+pub commits_nothing : (old new : State) (Commits : Trees → Type 0) → Survives old new Commits → ((db : Trees) → Commits db → ⊥) → HasCleanDisk new → CommitsNothing old new
+commits_nothing old new Commits survives none clean db may = ⊎_elim (λ was. was) (λ commits. absurd (none db commits)) (survives.crash clean db may)
+
+-- a call that may commit nothing, and changes nothing at Ok, only reads
+pub only_reads : {T E : Type 0} (HasSchema : Schema → Type 0) (old new : State) (Commits : Trees → Type 0) (r : Result T E) → Survives old new Commits
+    → (HasSchema old.now.schema → (db : Trees) → Commits db → ⊥) → (HasCleanDisk new → HasSchema old.now.schema → OnOk r (IsUnchanged old new)) → OnlyReads HasSchema old new r
+only_reads HasSchema old new Commits r survives none same = record {
+  same = same;
+  crash = λ clean has. commits_nothing old new Commits survives (none has) clean;
+  clean = λ clean. omega (arith, clean, survives.clean);
+}
 
 -- ---- a transaction by its texts
 

@@ -1,11 +1,11 @@
 -- The rows of a store that keeps those in whose place a base was put.
-use Rattle.std.specs.Prelude.{◌≡◌, ℕ, ◌+◌, ◌++◌, List, length, map}
+use Rattle.std.specs.Prelude.{◌≡◌, ◌⊎◌, ℕ, ◌+◌, ◌++◌, List, OnOk, Result, length, map}
 use Rattle.std.specs.List.Sorted.{IsPermutation}
 use Rattle.sqlite.specs.Order.{Row}
-use Rattle.sqlite.specs.State.{State}
+use Rattle.sqlite.specs.State.{HasCleanDisk, State}
 use Rattle.sqlite.specs.Tree.{Trees}
 use Rattle.stored_steps.specs.Stored.{Stored}
-use Rattle.site_store.specs.Steps.{IsIdle, Lists, kept_schema, shown}
+use Rattle.site_store.specs.Steps.{IsIdle, IsStoreSchema, Lists, kept_schema, shown}
 
 -- trees list kept rows, and then the rows of the table of steps, at positions one after the other from `first` on
 pub record ListsAll (trees : Trees) (first : ℕ) (kept list : List Stored) : Type 0 where
@@ -20,6 +20,26 @@ pub record HoldsAll (s : State) (first : ℕ) (kept list : List Stored) : Type 0
 -- each outcome of a crash has these kept rows and these steps
 abbrev pub LeavesAll : State → ℕ → List Stored → List Stored → Type 0
 LeavesAll s first kept list = (db : Trees) → s.may_leave db → ListsAll db first kept list
+
+-- a crash after a call leaves these kept rows and these steps, or what a crash before it did
+abbrev pub CommitsAll : State → State → ℕ → List Stored → List Stored → Type 0
+CommitsAll old new first kept list = (db : Trees) → new.may_leave db → old.may_leave db ⊎ ListsAll db first kept list
+
+-- at Ok a store that keeps rows holds further steps from this position on, its next, and each outcome of a crash has them
+abbrev pub AddsToAll : {T E : Type 0} → State → State → ℕ → List Stored → Result T E → Type 0
+AddsToAll old new at more result =
+    HasCleanDisk new → (first : ℕ) (kept list : List Stored) → HoldsAll old first kept list → at ≡ first + length kept + length list
+    → OnOk result (HoldsAll new first kept (list ++ more) × LeavesAll new first kept (list ++ more))
+
+-- a crash leaves a store that keeps rows with further steps from this position on, its next, or as a crash before did
+abbrev pub CommitsToAll : State → State → ℕ → List Stored → Type 0
+CommitsToAll old new at more =
+    HasCleanDisk new → (first : ℕ) (kept list : List Stored) → HoldsAll old first kept list → at ≡ first + length kept + length list
+    → CommitsAll old new first kept (list ++ more)
+
+-- at Ok the table of kept rows lists the rows of both tables
+abbrev pub KeepsAll : {T E : Type 0} → State → State → Result T E → Type 0
+KeepsAll old new result = (first : ℕ) (kept list : List Stored) → ListsAll old.now.trees first kept list → OnOk result (Lists (new.now.trees 1) first (kept ++ list))
 
 -- rows are those of both tables, first those of the table of kept rows, each table's in some order
 pub record AreOfBoth (trees : Trees) (rows : List Row) : Type 0 where
@@ -40,6 +60,10 @@ pub record IsHistory (trees : Trees) (first : ℕ) (rows : List Stored) : Type 0
 pub record SparesKept (old new : State) : Type 0 where
   pub schema : new.now.schema ≡ old.now.schema
   pub kept : new.now.trees 1 ≡ old.now.trees 1
+
+-- at Ok a call has left the schema of a store and its kept rows as they were
+abbrev pub SparesKeptAtOk : {T E : Type 0} → State → State → Result T E → Type 0
+SparesKeptAtOk old new result = HasCleanDisk new → IsStoreSchema old.now.schema → OnOk result (SparesKept old new)
 
 -- what a connection saw is committed, and nothing else is
 pub record IsCommitted (old new : State) : Type 0 where

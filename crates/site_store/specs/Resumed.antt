@@ -1,13 +1,13 @@
 -- A site that goes on over the rows that a connection holds.
-use Rattle.std.specs.Prelude.{◌≡◌, ℕ, ◌+◌, ◌-◌, ◌^◌, ◌++◌, List, [], ◌∷◌, ⊤, drop, length, min, sum_by}
-use Rattle.sqlite.specs.State.{State}
+use Rattle.std.specs.Prelude.{◌≡◌, ℕ, ◌+◌, ◌-◌, ◌^◌, ◌++◌, List, [], ◌∷◌, ⊤, IfErr, Result, drop, length, min, sum_by}
+use Rattle.sqlite.specs.State.{HasCleanDisk, IsUnchanged, State}
 use Rattle.stored_steps.specs.Restoring.{IsRestoredSite}
 use Rattle.stored_steps.specs.StartRows.{start_row}
 use Rattle.stored_steps.specs.Stored.{Stored}
 use Rattle.site_store.specs.declared.open_fault.OpenFault.{OpenFault}
 use Rattle.site_store.specs.declared.open_fault.OpenFault.TheVariants.{Blank, CannotOpen, Damaged, Database, Gap, InTransaction, InUse, Memory, NoStore, Site}
 use Rattle.site_store.specs.declared.resuming.ResumedSite.{ResumedSite}
-use Rattle.site_store.specs.Steps.{Holds, LeavesOnly}
+use Rattle.site_store.specs.Steps.{Holds, IsStoreSchema, LeavesOnly}
 
 -- rows are refused: a position is missing, or they are no store of the site
 abbrev pub IsOfRows : OpenFault → Type 0
@@ -21,6 +21,11 @@ IsOfRows (Site fault) = ⊤
 IsOfRows InTransaction = ⊥
 IsOfRows (Database error) = ⊥
 IsOfRows Memory = ⊥
+
+-- a store stays as it is where its rows are refused
+abbrev pub KeepsRefusedRows : {T : Type 0} → State → State → Result T OpenFault → Type 0
+KeepsRefusedRows old new result =
+    HasCleanDisk new → IsStoreSchema old.now.schema → IfErr result (λ fault. IsOfRows fault → IsUnchanged old new)
 
 -- how many bytes the body of a row has
 abbrev pub body_bytes : Stored → ℕ

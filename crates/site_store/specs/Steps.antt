@@ -1,5 +1,5 @@
 -- The table of steps, and what a connection holds.
-use Rattle.std.specs.Prelude.{◌≡◌, ◌⊎◌, ℕ, ◌+◌, List, [], ◌∷◌, map, codes, Bool, true, false, pos, Some, IsTrue}
+use Rattle.std.specs.Prelude.{◌≡◌, ◌⊎◌, ℕ, ◌+◌, List, [], ◌∷◌, map, codes, Bool, true, false, pos, Some, IsTrue, OnOk, Result}
 use Rattle.std.specs.List.Sorted.{IsPermutation}
 use Rattle.sqlite.specs.Collation.TheVariants.{Binary}
 use Rattle.sqlite.specs.declared.types.Value.TheVariants.{Null, Int, Blob as Bytes}
@@ -10,7 +10,7 @@ use Rattle.sqlite_schema.specs.declared.schema.Column.{Column}
 use Rattle.sqlite.specs.Kind.{Kind}
 use Rattle.sqlite.specs.Kind.TheVariants.{Integer, Blob, Text}
 use Rattle.sqlite.specs.Tree.{Trees}
-use Rattle.sqlite.specs.State.{State}
+use Rattle.sqlite.specs.State.{HasCleanDisk, IsUnchanged, State}
 use Rattle.stored_steps.specs.Stored.{Stored}
 
 -- a column of the table: its name, its kind, and whether it is NOT NULL
@@ -86,6 +86,20 @@ pub record Holds (s : State) (at : ℕ) (list : List Stored) : Type 0 where
 -- each outcome of a crash has these steps
 abbrev pub LeavesOnly : State → ℕ → List Stored → Type 0
 LeavesOnly s at list = (db : Trees) → s.may_leave db → Lists (db 0) at list
+
+-- a crash after a call leaves only what a crash before it did
+abbrev pub CommitsNothing : State → State → Type 0
+CommitsNothing old new = (db : Trees) → new.may_leave db → old.may_leave db
+
+-- a crash after a call leaves these steps, or what a crash before it did
+abbrev pub CommitsSteps : State → State → ℕ → List Stored → Type 0
+CommitsSteps old new at list = (db : Trees) → new.may_leave db → old.may_leave db ⊎ Lists (db 0) at list
+
+-- a call only reads a database of such a schema: at Ok nothing has changed, and in any case it commits nothing
+pub record OnlyReads {T E : Type 0} (HasSchema : Schema → Type 0) (old new : State) (result : Result T E) : Type 0 where
+  pub same : HasCleanDisk new → HasSchema old.now.schema → OnOk result (IsUnchanged old new)
+  pub crash : HasCleanDisk new → HasSchema old.now.schema → CommitsNothing old new
+  pub clean : HasCleanDisk new → HasCleanDisk old
 
 -- a statement was done within a transaction, which is still open
 pub record IsInside (old new : State) : Type 0 where

@@ -4,14 +4,16 @@ ghost use Rattle.sqlite.specs.Held.{state};
 ghost use Rattle.sqlite.specs.State.{HasCleanDisk};
 ghost use Rattle.sqlite.specs.Tree.{Trees};
 ghost use Rattle.stored_steps.specs.Stored.{Stored};
-ghost use Rattle.site_store.specs.Kept.{HoldsAll, IsCommitted, LeavesAll, ListsAll, SparesKept};
-ghost use Rattle.site_store.specs.Steps.{Holds, IsIdle, IsInside, LeavesOnly, Lists};
+ghost use Rattle.site_store.specs.Kept.{AddsToAll, CommitsToAll, IsCommitted, SparesKept};
+ghost use Rattle.site_store.specs.Steps.{CommitsNothing, CommitsSteps, Holds, IsIdle, IsInside};
+ghost use Rattle.site_store.specs.Steps.{LeavesOnly};
 
 use crate::writing::append;
 use sqlite::{Alter, Connection, Error};
 use stored_steps::StoredRow;
 
-// Adds rows at positions from `at` on, within a transaction.
+// Adds rows at positions from `at` on, within a transaction. Nothing is committed. Fails with the database's error; then some rows may
+// have been added.
 fn append_each<S: Alter>(
     conn: &mut Connection<S>,
     at: u64,
@@ -33,8 +35,7 @@ fn append_each<S: Alter>(
         → Holds (state S.Store conn.old) first list → at ≡ first + length list
         → IsTrue (state S.Store conn.old).in_transaction
         → IsTrue (state S.Store conn.old).is_open
-        → (db : Trees) → (state S.Store conn.new).may_leave db
-        → (state S.Store conn.old).may_leave db }
+        → CommitsNothing (state S.Store conn.old) (state S.Store conn.new) }
     ensures clean { HasCleanDisk (state S.Store conn.new) → HasCleanDisk (state S.Store conn.old) }
 {
     let mut place = at;
@@ -45,20 +46,21 @@ fn append_each<S: Alter>(
     Ok(())
 }
 
-// Begins a transaction by its text.
+// Begins a transaction. What the database holds stays. Fails with the database's error, also where a transaction is open. Returns the
+// database's count of changed rows, which no caller reads.
 pub(crate) fn begin<S: Alter>(conn: &mut Connection<S>) -> Result<usize, Error>
     ensures begun { HasCleanDisk (state S.Store conn.new)
         → OnOk result (((state S.Store conn.new).now ≡ (state S.Store conn.old).now)
         × IsInside (state S.Store conn.old) (state S.Store conn.new)) }
     ensures crash { HasCleanDisk (state S.Store conn.new)
-        → (db : Trees) → (state S.Store conn.new).may_leave db
-        → (state S.Store conn.old).may_leave db }
+        → CommitsNothing (state S.Store conn.old) (state S.Store conn.new) }
     ensures clean { HasCleanDisk (state S.Store conn.new) → HasCleanDisk (state S.Store conn.old) }
 {
     conn.execute("BEGIN", &[])
 }
 
-// Commits by its text.
+// Commits the open transaction, and ends it. After the call a crash leaves what it left before, or what the transaction holds; after Ok
+// only that. Fails with the database's error. Returns the database's count of changed rows, which no caller reads.
 pub(crate) fn commit<S: Alter>(conn: &mut Connection<S>) -> Result<usize, Error>
     ensures done { HasCleanDisk (state S.Store conn.new)
         → OnOk result (IsCommitted (state S.Store conn.old) (state S.Store conn.new)) }
@@ -87,21 +89,10 @@ pub fn append_all<S: Alter>(
         → OnOk result (IsIdle (state S.Store conn.new)) }
     ensures crash { HasCleanDisk (state S.Store conn.new) → (first : ℕ) (list : List Stored)
         → Holds (state S.Store conn.old) first list → at ≡ first + length list
-        → (db : Trees) → (state S.Store conn.new).may_leave db
-        → (state S.Store conn.old).may_leave db ⊎ Lists (db 0) first (list ++ steps.now) }
+        → CommitsSteps (state S.Store conn.old) (state S.Store conn.new) first (list ++ steps.now) }
     // The kept rows stay, also over a crash.
-    ensures spared { HasCleanDisk (state S.Store conn.new) → (first : ℕ) (kept list : List Stored)
-        → HoldsAll (state S.Store conn.old) first kept list
-        → at ≡ first + length kept + length list
-        → OnOk result (HoldsAll (state S.Store conn.new) first kept (list ++ steps.now)
-        × LeavesAll (state S.Store conn.new) first kept (list ++ steps.now)) }
-    ensures spared_crash { HasCleanDisk (state S.Store conn.new)
-        → (first : ℕ) (kept list : List Stored)
-        → HoldsAll (state S.Store conn.old) first kept list
-        → at ≡ first + length kept + length list
-        → (db : Trees) → (state S.Store conn.new).may_leave db
-        → (state S.Store conn.old).may_leave db
-        ⊎ ListsAll db first kept (list ++ steps.now) }
+    ensures spared { AddsToAll (state S.Store conn.old) (state S.Store conn.new) at steps.now result }
+    ensures spared_crash { CommitsToAll (state S.Store conn.old) (state S.Store conn.new) at steps.now }
     ensures clean { HasCleanDisk (state S.Store conn.new) → HasCleanDisk (state S.Store conn.old) }
 {
     begin(conn)?;

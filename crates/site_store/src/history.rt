@@ -1,32 +1,27 @@
 //! All rows of a store, with those in whose place a base was put.
-ghost use Rattle.std.specs.Prelude.{◌≡◌, ◌≢◌, ◌++◌, [], ℕ, List, IfOk, IfSome, OnOk, map};
+ghost use Rattle.std.specs.Prelude.{◌≡◌, ◌≢◌, ◌++◌, [], ℕ, List, IfOk, IfSome, map};
 ghost use Rattle.std.specs.List.Sorted.{IsPermutation};
 ghost use Rattle.sqlite.specs.Held.{state};
-ghost use Rattle.sqlite.specs.State.{HasCleanDisk, IsUnchanged};
-ghost use Rattle.sqlite.specs.Tree.{Trees};
+ghost use Rattle.sqlite.specs.State.{HasCleanDisk};
 ghost use Rattle.stored_steps.specs.Stored.{Stored};
 ghost use Rattle.site_store.specs.Kept.{AreOfBoth, HoldsAll, IsHistory};
-ghost use Rattle.site_store.specs.Steps.{IsStoreSchema, Lists, kept_schema, shown, step_schema};
+ghost use Rattle.site_store.specs.Steps.{IsStoreSchema, Lists, OnlyReads};
+ghost use Rattle.site_store.specs.Steps.{kept_schema, shown, step_schema};
 
 use crate::reading::{Listed, listed_from, query_rows, read_all};
 use crate::shape::keeps_rows;
 use sqlite::{Alter, Connection, Error, Row};
 use std::alloc::Global;
 
-// All rows of the table of kept rows, as they are shown.
+// All rows of the table of kept rows, as an answer shows them, in the order of their positions; no contract says that order. What the
+// database holds stays. Fails with the database's error.
 fn query_kept<S: Alter>(conn: &mut Connection<S>) -> Result<Vec<Row>, Error>
     ensures listed { HasCleanDisk (state S.Store conn.new)
         → (state S.Store conn.old).now.schema ≡ kept_schema
         → IfOk result (λ rows.
         IsPermutation (map shown ((state S.Store conn.old).now.trees 1)) rows.items) }
-    ensures same { HasCleanDisk (state S.Store conn.new)
-        → (state S.Store conn.old).now.schema ≡ kept_schema
-        → OnOk result (IsUnchanged (state S.Store conn.old) (state S.Store conn.new)) }
-    ensures crash { HasCleanDisk (state S.Store conn.new)
-        → (state S.Store conn.old).now.schema ≡ kept_schema
-        → (db : Trees) → (state S.Store conn.new).may_leave db
-        → (state S.Store conn.old).may_leave db }
-    ensures clean { HasCleanDisk (state S.Store conn.new) → HasCleanDisk (state S.Store conn.old) }
+    ensures reads { OnlyReads (λ schema. schema ≡ kept_schema)
+        (state S.Store conn.old) (state S.Store conn.new) result }
 {
     let rows = conn.query_all(
         "SELECT position, pass, kind, body FROM kept ORDER BY position",
@@ -35,19 +30,14 @@ fn query_kept<S: Alter>(conn: &mut Connection<S>) -> Result<Vec<Row>, Error>
     Ok(rows)
 }
 
-// All rows of both tables, as they are shown: first those of the table of kept rows.
+// All rows of both tables, as answers show them: first those of the table of kept rows. What the database holds stays. Fails with the
+// database's error.
 fn query_both<S: Alter>(conn: &mut Connection<S>) -> Result<Vec<Row>, Error>
     ensures listed { HasCleanDisk (state S.Store conn.new)
         → (state S.Store conn.old).now.schema ≡ kept_schema
         → IfOk result (λ rows. AreOfBoth (state S.Store conn.old).now.trees rows.items) }
-    ensures same { HasCleanDisk (state S.Store conn.new)
-        → (state S.Store conn.old).now.schema ≡ kept_schema
-        → OnOk result (IsUnchanged (state S.Store conn.old) (state S.Store conn.new)) }
-    ensures crash { HasCleanDisk (state S.Store conn.new)
-        → (state S.Store conn.old).now.schema ≡ kept_schema
-        → (db : Trees) → (state S.Store conn.new).may_leave db
-        → (state S.Store conn.old).may_leave db }
-    ensures clean { HasCleanDisk (state S.Store conn.new) → HasCleanDisk (state S.Store conn.old) }
+    ensures reads { OnlyReads (λ schema. schema ≡ kept_schema)
+        (state S.Store conn.old) (state S.Store conn.new) result }
 {
     let mut kept = query_kept(conn)?;
     let mut rows = match query_rows(conn) {
@@ -69,7 +59,8 @@ fn query_both<S: Alter>(conn: &mut Connection<S>) -> Result<Vec<Row>, Error>
 }
 
 /// All rows that a store has, in the order of their positions: where the store keeps rows those in whose place a base was put, and then
-/// those of the table of steps. `None` where a position is missing between two rows. Fails with the database's error.
+/// those of the table of steps. `None` where a row but the first hasn't the next position. What the database holds stays. Fails with
+/// the database's error, also when out of memory, or where a position, pass or kind is out of range.
 pub fn read_history<S: Alter>(
     alloc: Global,
     conn: &mut Connection<S>,
@@ -88,15 +79,8 @@ pub fn read_history<S: Alter>(
         → (state S.Store conn.old).now.schema ≡ step_schema
         → IfOk result (λ found. IfSome found
         (λ it. Lists ((state S.Store conn.old).now.trees 0) it.first it.steps.items)) }
-    ensures same { HasCleanDisk (state S.Store conn.new)
-        → IsStoreSchema (state S.Store conn.old).now.schema
-        → OnOk result (IsUnchanged (state S.Store conn.old) (state S.Store conn.new)) }
-    // A read commits nothing.
-    ensures crash { HasCleanDisk (state S.Store conn.new)
-        → IsStoreSchema (state S.Store conn.old).now.schema
-        → (db : Trees) → (state S.Store conn.new).may_leave db
-        → (state S.Store conn.old).may_leave db }
-    ensures clean { HasCleanDisk (state S.Store conn.new) → HasCleanDisk (state S.Store conn.old) }
+    ensures reads { OnlyReads IsStoreSchema
+        (state S.Store conn.old) (state S.Store conn.new) result }
 {
     if !keeps_rows(conn.schema()) {
         return read_all(alloc, conn);

@@ -1,11 +1,11 @@
 //! The table of kept rows: those in whose place a base was put.
-ghost use Rattle.std.specs.Prelude.{◌≡◌, ◌⊎◌, ◌++◌, [], ℕ, List, IsTrue, Ok, OnOk};
+ghost use Rattle.std.specs.Prelude.{◌≡◌, ◌⊎◌, [], ℕ, List, IsTrue, Ok, OnOk};
 ghost use Rattle.sqlite.specs.Held.{state};
 ghost use Rattle.sqlite.specs.State.{HasCleanDisk};
 ghost use Rattle.sqlite.specs.Tree.{Trees};
 ghost use Rattle.stored_steps.specs.Stored.{Stored};
-ghost use Rattle.site_store.specs.Kept.{HoldsAll, ListsAll};
-ghost use Rattle.site_store.specs.Steps.{Holds, IsIdle, IsInside, LeavesOnly, Lists};
+ghost use Rattle.site_store.specs.Kept.{HoldsAll, KeepsAll};
+ghost use Rattle.site_store.specs.Steps.{CommitsNothing, Holds, IsIdle, IsInside, LeavesOnly, Lists};
 ghost use Rattle.site_store.specs.Steps.{kept_schema, step_schema};
 
 use crate::OpenFault;
@@ -13,7 +13,8 @@ use crate::open_fault::open_fault;
 use crate::shape::keeps_rows;
 use sqlite::{Alter, Connection, Error};
 
-// Makes the table of kept rows in a store that has none.
+// Makes the table of kept rows in a store that has none, in a commit of its own where no transaction is open. The steps stay, also over a
+// crash. Fails with the database's error. Returns the database's count of changed rows, which no caller reads.
 fn make_kept<S: Alter>(conn: &mut Connection<S>) -> Result<usize, Error>
     ensures made { HasCleanDisk (state S.Store conn.new)
         → (state S.Store conn.old).now.schema ≡ step_schema
@@ -69,7 +70,8 @@ pub fn keep_rows<S: Alter>(conn: &mut Connection<S>) -> Result<(), OpenFault>
     }
 }
 
-// Copies all rows of the table of steps to that of kept rows, within a transaction.
+// Copies all rows of the table of steps to that of kept rows, within a transaction. Nothing is committed. Fails with the database's error.
+// Returns the database's count of changed rows, which no caller reads.
 fn copy_rows<S: Alter>(conn: &mut Connection<S>) -> Result<usize, Error>
     ensures copied { HasCleanDisk (state S.Store conn.new)
         → IsTrue (state S.Store conn.old).in_transaction
@@ -79,14 +81,11 @@ fn copy_rows<S: Alter>(conn: &mut Connection<S>) -> Result<usize, Error>
         × ((state S.Store conn.new).now.trees 0 ≡ (state S.Store conn.old).now.trees 0)) }
     ensures kept { HasCleanDisk (state S.Store conn.new)
         → (state S.Store conn.old).now.schema ≡ kept_schema
-        → (first : ℕ) (kept list : List Stored)
-        → ListsAll (state S.Store conn.old).now.trees first kept list
-        → OnOk result (Lists ((state S.Store conn.new).now.trees 1) first (kept ++ list)) }
+        → KeepsAll (state S.Store conn.old) (state S.Store conn.new) result }
     ensures crash { HasCleanDisk (state S.Store conn.new)
         → IsTrue (state S.Store conn.old).in_transaction
         → (state S.Store conn.old).now.schema ≡ kept_schema
-        → (db : Trees) → (state S.Store conn.new).may_leave db
-        → (state S.Store conn.old).may_leave db }
+        → CommitsNothing (state S.Store conn.old) (state S.Store conn.new) }
     ensures clean { HasCleanDisk (state S.Store conn.new) → HasCleanDisk (state S.Store conn.old) }
 {
     conn.execute(
@@ -95,7 +94,8 @@ fn copy_rows<S: Alter>(conn: &mut Connection<S>) -> Result<usize, Error>
     )
 }
 
-// Deletes all rows of the table of steps in a store that keeps rows, within a transaction.
+// Deletes all rows of the table of steps in a store that keeps rows, within a transaction. Nothing is committed. Fails with the database's
+// error. Returns the database's count of changed rows, which no caller reads.
 fn delete_rows<S: Alter>(conn: &mut Connection<S>) -> Result<usize, Error>
     ensures deleted { HasCleanDisk (state S.Store conn.new)
         → IsTrue (state S.Store conn.old).in_transaction
@@ -109,14 +109,13 @@ fn delete_rows<S: Alter>(conn: &mut Connection<S>) -> Result<usize, Error>
     ensures crash { HasCleanDisk (state S.Store conn.new)
         → IsTrue (state S.Store conn.old).in_transaction
         → (state S.Store conn.old).now.schema ≡ kept_schema
-        → (db : Trees) → (state S.Store conn.new).may_leave db
-        → (state S.Store conn.old).may_leave db }
+        → CommitsNothing (state S.Store conn.old) (state S.Store conn.new) }
     ensures clean { HasCleanDisk (state S.Store conn.new) → HasCleanDisk (state S.Store conn.old) }
 {
     conn.execute("DELETE FROM step", &[])
 }
 
-// Moves all rows of the table of steps to that of kept rows, within a transaction.
+// Moves all rows of the table of steps to that of kept rows, within a transaction. Nothing is committed. Fails with the database's error.
 pub(crate) fn move_rows<S: Alter>(conn: &mut Connection<S>) -> Result<(), Error>
     ensures moved { HasCleanDisk (state S.Store conn.new)
         → IsTrue (state S.Store conn.old).in_transaction
@@ -129,14 +128,11 @@ pub(crate) fn move_rows<S: Alter>(conn: &mut Connection<S>) -> Result<(), Error>
     ensures kept { HasCleanDisk (state S.Store conn.new)
         → IsTrue (state S.Store conn.old).in_transaction
         → (state S.Store conn.old).now.schema ≡ kept_schema
-        → (first : ℕ) (kept list : List Stored)
-        → ListsAll (state S.Store conn.old).now.trees first kept list
-        → OnOk result (Lists ((state S.Store conn.new).now.trees 1) first (kept ++ list)) }
+        → KeepsAll (state S.Store conn.old) (state S.Store conn.new) result }
     ensures crash { HasCleanDisk (state S.Store conn.new)
         → IsTrue (state S.Store conn.old).in_transaction
         → (state S.Store conn.old).now.schema ≡ kept_schema
-        → (db : Trees) → (state S.Store conn.new).may_leave db
-        → (state S.Store conn.old).may_leave db }
+        → CommitsNothing (state S.Store conn.old) (state S.Store conn.new) }
     ensures clean { HasCleanDisk (state S.Store conn.new) → HasCleanDisk (state S.Store conn.old) }
 {
     copy_rows(conn)?;

@@ -39,7 +39,8 @@ pub enum OpenFault {
     Memory,
 }
 
-// What an error of the database is, as the fault of an open.
+// What an error of the database is, as the fault of an open: `InUse`, `CannotOpen`, `NoStore`,
+// `Damaged` or `Memory` where its code says that, else `Database`. No contract says which.
 pub(crate) fn open_fault(error: Error) -> OpenFault
     ensures { IsOfRows result → ⊥ }
 {

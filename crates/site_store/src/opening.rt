@@ -19,7 +19,7 @@ use crate::shape::{Shape, has_shape, is_blank_schema};
 use sqlite::{Alter, Connection, FileFrom, FileStore, Start};
 use stored_steps::StoredRow;
 
-// A connection to a database of this shape. A database of another shape is closed.
+// A connection to a database of this shape. A database of another shape is closed: the fault is `Blank`, if it has nothing, else `NoStore`.
 fn with_shape<S: Alter + Drop>(
     conn: Connection<S>,
     wanted: Shape,
@@ -42,7 +42,8 @@ fn with_shape<S: Alter + Drop>(
     }
 }
 
-// A connection to a database that had no table, with a new store of this base. Where none can be made, the database is closed.
+// A connection to a database that had no table, with a new store of this base. Where none can be made, the database is closed. Errors:
+// `NoStore`, if a transaction is open; those of the database, as `open` has them.
 fn with_base<S: Alter + Drop>(
     conn: Connection<S>,
     at: u64,
@@ -69,7 +70,8 @@ fn with_base<S: Alter + Drop>(
     Err(fault)
 }
 
-// Opens the file at a path, or makes it, with sums. Its database must have this shape.
+// Opens the file at a path; a file that is missing is made, and its pages have sums. Errors, in order: those of the database, as `open` has
+// them; those of `with_shape`, if the database hasn't this shape.
 fn open_file<S: Start>(
     rt: &HostRuntime,
     path: &str,
@@ -97,12 +99,12 @@ fn open_file<S: Start>(
     }
 }
 
-/// Opens the store at a path, which keeps rows or not. `resume` then restores its site. A file that is missing is made, and has no table: so
-/// a mistyped path gives `Blank`, and leaves a file.
+/// Opens the store at a path, which keeps rows or not. `resume` then restores its site. A file that is missing is made, and has no table:
+/// so a mistyped path gives `Blank`, and leaves a file.
 ///
 /// Errors, in order: `InUse`, if the file is open elsewhere; `CannotOpen`; `NoStore`, if the file is no database; `Damaged`, if a
 /// page of it is damaged; `Database`, if the database fails in another way; `Blank`, if the file is new or has no table yet; `NoStore`
-/// again, if it has other tables. `Memory` may stand in place of each up to `Database`.
+/// again, if it has other tables. `Memory` may replace each up to `Database`.
 pub fn open<S: Start>(
     rt: &HostRuntime,
     path: &str,
@@ -126,8 +128,8 @@ pub fn open<S: Start>(
 /// Opens a file that is new or has no table yet, for `create`, and makes one that is missing. The pages of a new file have sums.
 ///
 /// Errors, in order: `InUse`, if the file is open elsewhere; `CannotOpen`; `NoStore`, if the file is no database; `Damaged`, if a
-/// page of it is damaged; `Database`, if the database fails in another way; `NoStore` again, if the file has a table. `Memory` may stand
-/// in place of each up to `Database`.
+/// page of it is damaged; `Database`, if the database fails in another way; `NoStore` again, if the file has a table. `Memory` may replace
+/// each up to `Database`.
 pub fn open_blank<S: Start>(
     rt: &HostRuntime,
     path: &str,
@@ -145,7 +147,8 @@ pub fn open_blank<S: Start>(
 /// Makes a store with this base, at this position, in a file that is new or has no table yet, as where an earlier call was cut off by a
 /// crash. It makes a file that is missing. `resume` then restores its site.
 ///
-/// Errors, in order: those of `open_blank`; and the database's errors where the base is put, as `open` has them.
+/// Errors, in order: those of `open_blank`; and the database's errors where the base is put, as `open` has them: the file then has no
+/// table, or this store.
 pub fn open_new<S: Start>(
     rt: &HostRuntime,
     path: &str,

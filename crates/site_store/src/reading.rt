@@ -1,9 +1,9 @@
-ghost use Rattle.std.specs.Prelude.{◌≡◌, IfOk, IfSome, OnOk, map};
+ghost use Rattle.std.specs.Prelude.{◌≡◌, IfOk, IfSome, map};
 ghost use Rattle.std.specs.List.Sorted.{IsPermutation};
 ghost use Rattle.sqlite.specs.Held.{state};
-ghost use Rattle.sqlite.specs.State.{HasCleanDisk, IsUnchanged};
-ghost use Rattle.sqlite.specs.Tree.{Trees};
-ghost use Rattle.site_store.specs.Steps.{IsStoreSchema, Lists, rows_from, shown, step_row};
+ghost use Rattle.sqlite.specs.State.{HasCleanDisk};
+ghost use Rattle.site_store.specs.Steps.{IsStoreSchema, Lists, OnlyReads};
+ghost use Rattle.site_store.specs.Steps.{rows_from, shown, step_row};
 
 use dots::Bytes;
 use sqlite::{Alter, Connection, Error, Row};
@@ -19,7 +19,8 @@ pub struct Listed {
     pub steps: Vec<StoredRow>,
 }
 
-// The row of a store that a row of an answer shows, if it is one at this position.
+// The row of a store that a row of an answer shows, without its words. `None` if it has another position, or not four columns. Fails if
+// a column has a value of another type or range, or when out of memory.
 fn stored_at(alloc: Global, row: &Row, at: u64) -> Result<Option<StoredRow>, Error>
     ensures { IfOk result (λ found. IfSome found (λ stored. row.now ≡ step_row at stored)) }
 {
@@ -37,7 +38,8 @@ fn stored_at(alloc: Global, row: &Row, at: u64) -> Result<Option<StoredRow>, Err
     Ok(Some(StoredRow::new(pass, kind, Bytes::new(body), words)))
 }
 
-// The rows of a store that rows of an answer show, if they stand at positions from `first` on.
+// The rows of a store that rows of an answer show. `None` if they don't stand at the positions from `first` on, each below 2^64 - 1. Fails
+// as `stored_at`.
 fn stored_from(alloc: Global, rows: &[Row], first: u64) -> Result<Option<Vec<StoredRow>>, Error>
     ensures { IfOk result (λ found. IfSome found
         (λ steps. rows.now ≡ rows_from first steps.items)) }
@@ -57,7 +59,7 @@ fn stored_from(alloc: Global, rows: &[Row], first: u64) -> Result<Option<Vec<Sto
     Ok(Some(steps))
 }
 
-// The position that the first of rows shows.
+// The position that the first of rows shows; 0 if there is no row. Fails if the row shows no number from 0 on. No contract says which.
 fn first_of(rows: &[Row]) -> Result<u64, Error> {
     match rows.first() {
         Some(row) => row.get(0),
@@ -65,7 +67,8 @@ fn first_of(rows: &[Row]) -> Result<u64, Error> {
     }
 }
 
-// The rows of a store that rows of an answer show, and the position of the first, if each but the first has the next position.
+// The rows of a store that rows of an answer show, and the position of the first. `None` if a row but the first hasn't the next position.
+// Fails as `stored_at`.
 pub(crate) fn listed_from(alloc: Global, rows: &[Row]) -> Result<Option<Listed>, Error>
     ensures { IfOk result (λ found. IfSome found
         (λ it. rows.now ≡ rows_from it.first it.steps.items)) }
@@ -77,20 +80,15 @@ pub(crate) fn listed_from(alloc: Global, rows: &[Row]) -> Result<Option<Listed>,
     }
 }
 
-// All rows of the table of steps, as they are shown.
+// All rows of the table of steps, as an answer shows them, in the order of their positions; no contract says that order. What the database
+// holds stays. Fails with the database's error.
 pub(crate) fn query_rows<S: Alter>(conn: &mut Connection<S>) -> Result<Vec<Row>, Error>
     ensures listed { HasCleanDisk (state S.Store conn.new)
         → IsStoreSchema (state S.Store conn.old).now.schema
         → IfOk result (λ rows.
         IsPermutation (map shown ((state S.Store conn.old).now.trees 0)) rows.items) }
-    ensures same { HasCleanDisk (state S.Store conn.new)
-        → IsStoreSchema (state S.Store conn.old).now.schema
-        → OnOk result (IsUnchanged (state S.Store conn.old) (state S.Store conn.new)) }
-    ensures crash { HasCleanDisk (state S.Store conn.new)
-        → IsStoreSchema (state S.Store conn.old).now.schema
-        → (db : Trees) → (state S.Store conn.new).may_leave db
-        → (state S.Store conn.old).may_leave db }
-    ensures clean { HasCleanDisk (state S.Store conn.new) → HasCleanDisk (state S.Store conn.old) }
+    ensures reads { OnlyReads IsStoreSchema
+        (state S.Store conn.old) (state S.Store conn.new) result }
 {
     let rows = conn.query_all(
         "SELECT position, pass, kind, body FROM step ORDER BY position",
@@ -99,22 +97,16 @@ pub(crate) fn query_rows<S: Alter>(conn: &mut Connection<S>) -> Result<Vec<Row>,
     Ok(rows)
 }
 
-/// All rows that a database with the table of steps holds, in the order of their positions. `None` where a position is missing between two
-/// rows. Fails with the database's error.
+/// All rows that a database with the table of steps holds, in the order of their positions. `None` where a row but the first hasn't the
+/// next position. What the database holds stays. Fails with the database's error, also when out of memory, or where a position, pass or
+/// kind is out of range.
 pub fn read_all<S: Alter>(alloc: Global, conn: &mut Connection<S>) -> Result<Option<Listed>, Error>
     ensures listed { HasCleanDisk (state S.Store conn.new)
         → IsStoreSchema (state S.Store conn.old).now.schema
         → IfOk result (λ found. IfSome found
         (λ it. Lists ((state S.Store conn.old).now.trees 0) it.first it.steps.items)) }
-    ensures same { HasCleanDisk (state S.Store conn.new)
-        → IsStoreSchema (state S.Store conn.old).now.schema
-        → OnOk result (IsUnchanged (state S.Store conn.old) (state S.Store conn.new)) }
-    // A read commits nothing.
-    ensures crash { HasCleanDisk (state S.Store conn.new)
-        → IsStoreSchema (state S.Store conn.old).now.schema
-        → (db : Trees) → (state S.Store conn.new).may_leave db
-        → (state S.Store conn.old).may_leave db }
-    ensures clean { HasCleanDisk (state S.Store conn.new) → HasCleanDisk (state S.Store conn.old) }
+    ensures reads { OnlyReads IsStoreSchema
+        (state S.Store conn.old) (state S.Store conn.new) result }
 {
     let rows = query_rows(conn)?;
     listed_from(alloc, rows.as_slice())

@@ -1,11 +1,11 @@
-ghost use Rattle.std.specs.Prelude.{◌≡◌, ◌⊎◌, ◌↔◌, ◌<◌, ◌^◌, ◌+◌, ◌++◌, ◌∷◌, [], ℕ, List};
+ghost use Rattle.std.specs.Prelude.{◌≡◌, ◌↔◌, ◌<◌, ◌^◌, ◌+◌, ◌++◌, ◌∷◌, [], ℕ, List};
 ghost use Rattle.std.specs.Prelude.{IfOk, IsTrue, Ok, OnOk, false, length};
 ghost use Rattle.sqlite.specs.Held.{state};
 ghost use Rattle.sqlite.specs.State.{HasCleanDisk};
-ghost use Rattle.sqlite.specs.Tree.{Trees};
 ghost use Rattle.stored_steps.specs.Stored.{Stored};
-ghost use Rattle.site_store.specs.Kept.{HoldsAll, LeavesAll, ListsAll};
-ghost use Rattle.site_store.specs.Steps.{Holds, IsIdle, IsInside, LeavesOnly, Lists, kept_schema};
+ghost use Rattle.site_store.specs.Kept.{CommitsAll, HoldsAll, LeavesAll};
+ghost use Rattle.site_store.specs.Steps.{CommitsNothing, CommitsSteps, Holds, IsIdle, IsInside};
+ghost use Rattle.site_store.specs.Steps.{LeavesOnly, Lists, kept_schema};
 
 use crate::group::{begin, commit};
 use crate::keeping::move_rows;
@@ -15,7 +15,8 @@ use crate::writing::append;
 use sqlite::{Alter, Connection, Error};
 use stored_steps::StoredRow;
 
-// Takes all rows out of the table of steps, within a transaction. A store that keeps rows moves them.
+// Takes all rows out of the table of steps, within a transaction: a store that keeps rows moves them, another makes its table anew.
+// Nothing is committed. Fails with the database's error.
 fn clear_steps<S: Alter>(conn: &mut Connection<S>) -> Result<(), Error>
     ensures cleared { HasCleanDisk (state S.Store conn.new)
         → IsTrue (state S.Store conn.old).in_transaction → (first : ℕ) (list : List Stored)
@@ -36,8 +37,7 @@ fn clear_steps<S: Alter>(conn: &mut Connection<S>) -> Result<(), Error>
     ensures crash { HasCleanDisk (state S.Store conn.new)
         → IsTrue (state S.Store conn.old).in_transaction → (first : ℕ) (list : List Stored)
         → Holds (state S.Store conn.old) first list
-        → (db : Trees) → (state S.Store conn.new).may_leave db
-        → (state S.Store conn.old).may_leave db }
+        → CommitsNothing (state S.Store conn.old) (state S.Store conn.new) }
     ensures clean { HasCleanDisk (state S.Store conn.new) → HasCleanDisk (state S.Store conn.old) }
 {
     if keeps_rows(conn.schema()) {
@@ -49,8 +49,8 @@ fn clear_steps<S: Alter>(conn: &mut Connection<S>) -> Result<(), Error>
 }
 
 /// Puts this base in the place of all rows, at this position, in one commit. A store that keeps rows moves them to its table of kept rows;
-/// another drops them. After the call a crash leaves the rows from before, or the base alone, and the kept rows accordingly. `false`: a
-/// transaction is open, and nothing is done. Fails with the database's error: the store is then to be opened again.
+/// another drops them. After the call a crash leaves the rows from before, or the base alone, and the kept rows accordingly; after `true`,
+/// the latter. `false`: a transaction is open, and nothing is done. Fails with the database's error: the store is then to be opened again.
 pub fn replace_base<S: Alter>(
     conn: &mut Connection<S>,
     at: u64,
@@ -74,8 +74,7 @@ pub fn replace_base<S: Alter>(
     ensures kept { result ≡ Ok false → conn.new ≡ conn.old }
     ensures crash { HasCleanDisk (state S.Store conn.new) → (first : ℕ) (list : List Stored)
         → Holds (state S.Store conn.old) first list
-        → (db : Trees) → (state S.Store conn.new).may_leave db
-        → (state S.Store conn.old).may_leave db ⊎ Lists (db 0) at (base.now ∷ []) }
+        → CommitsSteps (state S.Store conn.old) (state S.Store conn.new) at (base.now ∷ []) }
     // A store that keeps rows has them behind those that it kept, and the base alone in its table of steps.
     ensures moved { HasCleanDisk (state S.Store conn.new) → (first : ℕ) (kept list : List Stored)
         → HoldsAll (state S.Store conn.old) first kept list
@@ -87,9 +86,8 @@ pub fn replace_base<S: Alter>(
         → (first : ℕ) (kept list : List Stored)
         → HoldsAll (state S.Store conn.old) first kept list
         → at ≡ first + length kept + length list
-        → (db : Trees) → (state S.Store conn.new).may_leave db
-        → (state S.Store conn.old).may_leave db
-        ⊎ ListsAll db first (kept ++ list) (base.now ∷ []) }
+        → CommitsAll (state S.Store conn.old) (state S.Store conn.new)
+        first (kept ++ list) (base.now ∷ []) }
     ensures clean { HasCleanDisk (state S.Store conn.new) → HasCleanDisk (state S.Store conn.old) }
 {
     if !conn.is_autocommit() {

@@ -1,18 +1,19 @@
 //! A site that goes on over its store.
-ghost use Rattle.std.specs.Prelude.{◌≡◌, ◌≢◌, ◌⊎◌, ◌≤◌, ◌<◌, ◌^◌, ◌+◌, ◌-◌, ◌++◌, ◌∷◌, [], ℕ, List};
+ghost use Rattle.std.specs.Prelude.{◌≡◌, ◌≢◌, ◌≤◌, ◌<◌, ◌^◌, ◌+◌, ◌-◌, ◌++◌, ◌∷◌, [], ℕ, List};
 ghost use Rattle.std.specs.Prelude.{Err, IfErr, IfOk, IsTrue, OnOk, drop, false, length, min};
 ghost use Rattle.std.specs.Prelude.{sum_by};
 ghost use Rattle.sqlite.specs.Held.{state};
-ghost use Rattle.sqlite.specs.State.{HasCleanDisk, IsUnchanged};
-ghost use Rattle.sqlite.specs.Tree.{Trees};
+ghost use Rattle.sqlite.specs.State.{HasCleanDisk};
 ghost use Rattle.site_journal.specs.declared.journaled.TheConstants.{MOST_STEPS};
 ghost use Rattle.stored_steps.specs.Restoring.{IsRestoredSite};
 ghost use Rattle.stored_steps.specs.StartRows.{start_row};
 ghost use Rattle.stored_steps.specs.Stored.{Stored};
 ghost use Rattle.site_store.specs.declared.open_fault.OpenFault.{OpenFault};
-ghost use Rattle.site_store.specs.Kept.{SparesKept};
-ghost use Rattle.site_store.specs.Steps.{Holds, IsIdle, IsStoreSchema, LeavesOnly, Lists};
-ghost use Rattle.site_store.specs.Resumed.{IsOfRows, IsRestoredAt, IsResumed, body_bytes};
+ghost use Rattle.site_store.specs.Kept.{SparesKeptAtOk};
+ghost use Rattle.site_store.specs.Steps.{CommitsSteps, Holds, IsIdle, IsStoreSchema, LeavesOnly};
+ghost use Rattle.site_store.specs.Steps.{OnlyReads};
+ghost use Rattle.site_store.specs.Resumed.{IsOfRows, IsRestoredAt, IsResumed, KeepsRefusedRows};
+ghost use Rattle.site_store.specs.Resumed.{body_bytes};
 
 use crate::OpenFault;
 use crate::open_fault::open_fault;
@@ -41,7 +42,7 @@ pub struct ResumedSite {
     pub bytes: u64,
 }
 
-// Why rows make no site, as the fault of an open.
+// The fault of an open for rows that make no site: `Memory` stays, and every other fault is a `Site`. No contract says this.
 fn site_fault(fault: StoreFault) -> OpenFault {
     match fault {
         StoreFault::Memory => OpenFault::Memory,
@@ -60,7 +61,7 @@ fn body_bytes(rows: &[StoredRow]) -> u64
     bytes
 }
 
-// The same of all rows but the first.
+// How many bytes the bodies of all rows but the first have, at most 2^64 - 1.
 fn bytes_since_base(rows: &[StoredRow]) -> u64
     ensures { result ≡ min (sum_by body_bytes (drop 1 rows.now)) (2 ^ 64 - 1) }
 {
@@ -70,7 +71,8 @@ fn bytes_since_base(rows: &[StoredRow]) -> u64
     }
 }
 
-// The rows of a store, if two more have positions up to `LAST_POSITION`.
+// The rows of a store. What the database holds stays. Errors, in order: those of the database, as `open` has them; `Gap`, if a position is
+// missing between two rows, or two more rows have no positions up to `LAST_POSITION`.
 fn listed_rows<S: Alter>(alloc: Global, conn: &mut Connection<S>) -> Result<Listed, OpenFault>
     ensures listed { HasCleanDisk (state S.Store conn.new) → (first : ℕ) (rows : List Stored)
         → Holds (state S.Store conn.old) first rows → rows ≢ []
@@ -79,26 +81,10 @@ fn listed_rows<S: Alter>(alloc: Global, conn: &mut Connection<S>) -> Result<List
     ensures found { HasCleanDisk (state S.Store conn.new)
         → IsStoreSchema (state S.Store conn.old).now.schema
         → IfOk result (λ it. Holds (state S.Store conn.old) it.first it.steps.items) }
-    ensures holds { HasCleanDisk (state S.Store conn.new) → (first : ℕ) (rows : List Stored)
-        → Holds (state S.Store conn.old) first rows
-        → OnOk result (Holds (state S.Store conn.new) first rows) }
-    ensures mode { HasCleanDisk (state S.Store conn.new) → (first : ℕ) (rows : List Stored)
-        → Holds (state S.Store conn.old) first rows
-        → OnOk result ((state S.Store conn.new).in_transaction
-        ≡ (state S.Store conn.old).in_transaction) }
-    ensures crash { HasCleanDisk (state S.Store conn.new) → (first : ℕ) (rows : List Stored)
-        → Holds (state S.Store conn.old) first rows
-        → (db : Trees) → (state S.Store conn.new).may_leave db
-        → (state S.Store conn.old).may_leave db }
-    ensures same { HasCleanDisk (state S.Store conn.new)
-        → IsStoreSchema (state S.Store conn.old).now.schema
-        → OnOk result (IsUnchanged (state S.Store conn.old) (state S.Store conn.new)) }
-    ensures unchanged { HasCleanDisk (state S.Store conn.new)
-        → IsStoreSchema (state S.Store conn.old).now.schema
-        → IfErr result (λ fault. IsOfRows fault
-        → IsUnchanged (state S.Store conn.old) (state S.Store conn.new)) }
+    ensures reads { OnlyReads IsStoreSchema
+        (state S.Store conn.old) (state S.Store conn.new) result }
+    ensures unchanged { KeepsRefusedRows (state S.Store conn.old) (state S.Store conn.new) result }
     ensures fits { IfOk result (λ it. it.first + length it.steps.items < LAST_POSITION) }
-    ensures clean { HasCleanDisk (state S.Store conn.new) → HasCleanDisk (state S.Store conn.old) }
 {
     let found = match read_all(alloc, conn) {
         Ok(found) => found,
@@ -115,7 +101,8 @@ fn listed_rows<S: Alter>(alloc: Global, conn: &mut Connection<S>) -> Result<List
     Ok(listed)
 }
 
-// The site that the rows of a store make, before the row of its start is added.
+// The site that the rows of a store make, before the row of its start is added. What the database holds stays. Errors, in order: those of
+// `listed_rows`; `Site`, with the fault of `restore`; `Memory`.
 fn restore_rows<S: Alter>(
     alloc: Global,
     conn: &mut Connection<S>,
@@ -131,29 +118,13 @@ fn restore_rows<S: Alter>(
     ensures found { HasCleanDisk (state S.Store conn.new)
         → IsStoreSchema (state S.Store conn.old).now.schema
         → IfOk result (λ it. IsRestoredAt (state S.Store conn.old) it) }
-    ensures holds { HasCleanDisk (state S.Store conn.new) → (first : ℕ) (rows : List Stored)
-        → Holds (state S.Store conn.old) first rows
-        → OnOk result (Holds (state S.Store conn.new) first rows) }
-    ensures mode { HasCleanDisk (state S.Store conn.new) → (first : ℕ) (rows : List Stored)
-        → Holds (state S.Store conn.old) first rows
-        → OnOk result ((state S.Store conn.new).in_transaction
-        ≡ (state S.Store conn.old).in_transaction) }
-    ensures crash { HasCleanDisk (state S.Store conn.new) → (first : ℕ) (rows : List Stored)
-        → Holds (state S.Store conn.old) first rows
-        → (db : Trees) → (state S.Store conn.new).may_leave db
-        → (state S.Store conn.old).may_leave db }
-    ensures same { HasCleanDisk (state S.Store conn.new)
-        → IsStoreSchema (state S.Store conn.old).now.schema
-        → OnOk result (IsUnchanged (state S.Store conn.old) (state S.Store conn.new)) }
-    ensures unchanged { HasCleanDisk (state S.Store conn.new)
-        → IsStoreSchema (state S.Store conn.old).now.schema
-        → IfErr result (λ fault. IsOfRows fault
-        → IsUnchanged (state S.Store conn.old) (state S.Store conn.new)) }
+    ensures reads { OnlyReads IsStoreSchema
+        (state S.Store conn.old) (state S.Store conn.new) result }
+    ensures unchanged { KeepsRefusedRows (state S.Store conn.old) (state S.Store conn.new) result }
     ensures fits { IfOk result (λ it. it.next < LAST_POSITION) }
     ensures site { IfOk result (λ it. it.site.journal.replica.site ≡ site) }
     ensures names { IfOk result (λ it. it.site.journal.replica.names ≡ list.now) }
     ensures limit { IfOk result (λ it. it.site.journal.limit ≡ limit) }
-    ensures clean { HasCleanDisk (state S.Store conn.new) → HasCleanDisk (state S.Store conn.old) }
 {
     let listed = listed_rows(alloc, conn)?;
     let rows = listed.steps.len() as u64;
@@ -179,7 +150,8 @@ fn restore_rows<S: Alter>(
     }
 }
 
-// Adds the row of a start at this position, in a commit of its own, where no transaction is open.
+// Adds the row of a start at this position, in a commit of its own where no transaction is open. Errors: `Memory`; those of the database,
+// as `open` has them, which leave the rows as those of `append` do.
 fn add_start<S: Alter>(alloc: Global, conn: &mut Connection<S>, at: u64) -> Result<(), OpenFault>
     requires fits { at < LAST_POSITION }
     ensures added { HasCleanDisk (state S.Store conn.new) → (first : ℕ) (rows : List Stored)
@@ -195,11 +167,9 @@ fn add_start<S: Alter>(alloc: Global, conn: &mut Connection<S>, at: u64) -> Resu
         → OnOk result (IsIdle (state S.Store conn.new)) }
     ensures crash { HasCleanDisk (state S.Store conn.new) → (first : ℕ) (rows : List Stored)
         → Holds (state S.Store conn.old) first rows → at ≡ first + length rows
-        → (db : Trees) → (state S.Store conn.new).may_leave db
-        → (state S.Store conn.old).may_leave db ⊎ Lists (db 0) first (rows ++ start_row ∷ []) }
-    ensures spared { HasCleanDisk (state S.Store conn.new)
-        → IsStoreSchema (state S.Store conn.old).now.schema
-        → OnOk result (SparesKept (state S.Store conn.old) (state S.Store conn.new)) }
+        → CommitsSteps (state S.Store conn.old) (state S.Store conn.new)
+        first (rows ++ start_row ∷ []) }
+    ensures spared { SparesKeptAtOk (state S.Store conn.old) (state S.Store conn.new) result }
     ensures fault { IfErr result (λ fault. IsOfRows fault → ⊥) }
     ensures clean { HasCleanDisk (state S.Store conn.new) → HasCleanDisk (state S.Store conn.old) }
 {
@@ -218,8 +188,8 @@ fn add_start<S: Alter>(alloc: Global, conn: &mut Connection<S>, at: u64) -> Resu
 /// 1 to 1,000,000.
 ///
 /// Errors, in order: `InTransaction`, if a transaction is open, and then nothing is done; those of the database, as `open` has them; `Gap`,
-/// if a position is missing; `Site`, with the fault of `restore`; and those of the database again, where the row of the start is added.
-/// `Memory` may stand in place of each from those of the database on.
+/// if a position is missing, or fewer than two are left; `Site`, with the fault of `restore`; and those of the database again, where the
+/// row of the start is added. `Memory` may replace each but `InTransaction`.
 pub fn resume<S: Alter>(
     alloc: Global,
     conn: &mut Connection<S>,
@@ -232,7 +202,8 @@ pub fn resume<S: Alter>(
     ensures resumed { HasCleanDisk (state S.Store conn.new) → (first : ℕ) (rows : List Stored)
         → Holds (state S.Store conn.old) first rows → rows ≢ []
         → IfOk result (λ it. IsRestoredSite rows it.site × (it.next ≡ first + length rows + 1)
-        × Holds (state S.Store conn.new) first (rows ++ start_row ∷ [])) }
+        × Holds (state S.Store conn.new) first (rows ++ start_row ∷ [])
+        × LeavesOnly (state S.Store conn.new) first (rows ++ start_row ∷ [])) }
     // Whatever rows the connection held, the site is that of these rows.
     ensures found { HasCleanDisk (state S.Store conn.new)
         → IsStoreSchema (state S.Store conn.old).now.schema
@@ -242,9 +213,6 @@ pub fn resume<S: Alter>(
     ensures limit { IfOk result (λ it. it.site.journal.limit ≡ limit) }
     // A further row has a position.
     ensures fits { IfOk result (λ it. it.next < 2 ^ 63) }
-    ensures durable { HasCleanDisk (state S.Store conn.new) → (first : ℕ) (rows : List Stored)
-        → Holds (state S.Store conn.old) first rows → rows ≢ []
-        → OnOk result (LeavesOnly (state S.Store conn.new) first (rows ++ start_row ∷ [])) }
     ensures idle { HasCleanDisk (state S.Store conn.new) → (first : ℕ) (rows : List Stored)
         → Holds (state S.Store conn.old) first rows
         → OnOk result (IsIdle (state S.Store conn.new)) }
@@ -252,38 +220,22 @@ pub fn resume<S: Alter>(
         → (result ≡ Err OpenFault.InTransaction) × (conn.new ≡ conn.old) }
     ensures crash { HasCleanDisk (state S.Store conn.new) → (first : ℕ) (rows : List Stored)
         → Holds (state S.Store conn.old) first rows → rows ≢ []
-        → (db : Trees) → (state S.Store conn.new).may_leave db
-        → (state S.Store conn.old).may_leave db ⊎ Lists (db 0) first (rows ++ start_row ∷ []) }
+        → CommitsSteps (state S.Store conn.old) (state S.Store conn.new)
+        first (rows ++ start_row ∷ []) }
     // The kept rows stay.
-    ensures spared { HasCleanDisk (state S.Store conn.new)
-        → IsStoreSchema (state S.Store conn.old).now.schema
-        → OnOk result (SparesKept (state S.Store conn.old) (state S.Store conn.new)) }
+    ensures spared { SparesKeptAtOk (state S.Store conn.old) (state S.Store conn.new) result }
     // Rows that make no site stay as they are.
-    ensures unchanged { HasCleanDisk (state S.Store conn.new)
-        → IsStoreSchema (state S.Store conn.old).now.schema
-        → IfErr result (λ fault. IsOfRows fault
-        → IsUnchanged (state S.Store conn.old) (state S.Store conn.new)) }
+    ensures unchanged { KeepsRefusedRows (state S.Store conn.old) (state S.Store conn.new) result }
     ensures clean { HasCleanDisk (state S.Store conn.new) → HasCleanDisk (state S.Store conn.old) }
 {
     if !conn.is_autocommit() {
         return Err(OpenFault::InTransaction);
     }
-    let ResumedSite {
-        site,
-        next: at,
-        rows,
-        bytes,
-    } = restore_rows(alloc, conn, site, list, limit)?;
-    match add_start(alloc, conn, at) {
-        Ok(()) => Ok(ResumedSite {
-            site,
-            next: at + 1,
-            rows,
-            bytes,
-        }),
-        Err(fault) => {
-            drop(site);
-            Err(fault)
-        }
+    let mut resumed = restore_rows(alloc, conn, site, list, limit)?;
+    if let Err(fault) = add_start(alloc, conn, resumed.next) {
+        drop(resumed);
+        return Err(fault);
     }
+    resumed.next += 1;
+    Ok(resumed)
 }

@@ -8,7 +8,8 @@ use sqlite_schema::schema::{Column, Kind, Schema, Stamps, Table};
 use sqlite_value::keys::Collation;
 use sqlite_value::value::Value;
 
-// Whether a column of a strict table has this name and kind, and no default.
+// Whether a column is that of a strict table, with this name and kind, with no default and binary collation, and NOT NULL as
+// `not_null` says.
 fn is_step_column(column: &Column, name: &[u8], kind: Kind, not_null: bool) -> bool
     ensures { IsTrue result ↔ (column.now ≡ step_column name.now kind not_null) }
 {
@@ -58,7 +59,7 @@ fn is_keyed(table: &Table) -> bool
         && table.orders.is_empty()
 }
 
-// Whether a table has no checks, references, computed columns or counter.
+// Whether a table has no checks, references, computed columns, stamps or counter.
 fn is_bare(table: &Table) -> bool
     ensures checks { IsTrue result → table.now.checks ≡ [] }
     ensures references { IsTrue result → table.now.references ≡ [] }

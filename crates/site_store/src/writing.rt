@@ -1,11 +1,11 @@
-ghost use Rattle.std.specs.Prelude.{◌≡◌, ◌⊎◌, ◌<◌, ◌^◌, ◌+◌, ◌++◌, ◌∷◌, [], ℕ, List, IsTrue};
+ghost use Rattle.std.specs.Prelude.{◌≡◌, ◌<◌, ◌^◌, ◌+◌, ◌++◌, ◌∷◌, [], ℕ, List, IsTrue};
 ghost use Rattle.std.specs.Prelude.{OnErr, OnOk, false, length, pos};
 ghost use Rattle.sqlite.specs.Held.{state};
 ghost use Rattle.sqlite.specs.State.{HasCleanDisk};
-ghost use Rattle.sqlite.specs.Tree.{Trees};
 ghost use Rattle.stored_steps.specs.Stored.{Stored};
-ghost use Rattle.site_store.specs.Kept.{SparesKept};
-ghost use Rattle.site_store.specs.Steps.{Holds, IsIdle, IsInside, IsStoreSchema, LeavesOnly, Lists};
+ghost use Rattle.site_store.specs.Kept.{SparesKeptAtOk};
+ghost use Rattle.site_store.specs.Steps.{CommitsNothing, CommitsSteps, Holds, IsIdle, IsInside};
+ghost use Rattle.site_store.specs.Steps.{LeavesOnly};
 
 use sqlite::{Alter, Connection, Error, params};
 use stored_steps::StoredRow;
@@ -18,8 +18,9 @@ fn stored_position(at: u64) -> i64
     at as i64
 }
 
-/// Adds a row at this position, which is the next one, and commits it where no transaction is open. Fails with the database's error: outside
-/// a transaction the rows are then as before while the connection is open.
+/// Adds a row at this position, which is the next one, and commits it where no transaction is open. Returns how many rows the database has
+/// changed; no contract says this. Fails with the database's error: outside a transaction the rows are then as before while the connection
+/// is open.
 pub fn append<S: Alter>(conn: &mut Connection<S>, at: u64, kept: &StoredRow) -> Result<usize, Error>
     requires fits { at < 2 ^ 63 }
     ensures added { HasCleanDisk (state S.Store conn.new) → (first : ℕ) (list : List Stored)
@@ -41,18 +42,15 @@ pub fn append<S: Alter>(conn: &mut Connection<S>, at: u64, kept: &StoredRow) -> 
         → OnOk result (IsIdle (state S.Store conn.new)) }
     ensures crash { HasCleanDisk (state S.Store conn.new) → (first : ℕ) (list : List Stored)
         → Holds (state S.Store conn.old) first list → at ≡ first + length list
-        → (db : Trees) → (state S.Store conn.new).may_leave db
-        → (state S.Store conn.old).may_leave db ⊎ Lists (db 0) first (list ++ kept.now ∷ []) }
+        → CommitsSteps (state S.Store conn.old) (state S.Store conn.new)
+        first (list ++ kept.now ∷ []) }
     // Within a transaction nothing is committed.
     ensures inside { HasCleanDisk (state S.Store conn.new) → (first : ℕ) (list : List Stored)
         → Holds (state S.Store conn.old) first list → IsTrue (state S.Store conn.old).in_transaction
         → OnOk result (IsInside (state S.Store conn.old) (state S.Store conn.new))
-        × ((db : Trees) → (state S.Store conn.new).may_leave db
-        → (state S.Store conn.old).may_leave db) }
+        × CommitsNothing (state S.Store conn.old) (state S.Store conn.new) }
     // The kept rows stay.
-    ensures spared { HasCleanDisk (state S.Store conn.new)
-        → IsStoreSchema (state S.Store conn.old).now.schema
-        → OnOk result (SparesKept (state S.Store conn.old) (state S.Store conn.new)) }
+    ensures spared { SparesKeptAtOk (state S.Store conn.old) (state S.Store conn.new) result }
     ensures clean { HasCleanDisk (state S.Store conn.new) → HasCleanDisk (state S.Store conn.old) }
 {
     let position = stored_position(at);

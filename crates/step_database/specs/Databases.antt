@@ -2,11 +2,14 @@
 use Rattle.std.specs.Prelude.{ℕ, ◌≡◌, ◌+◌, ◌++◌, List, length, refl}
 use Rattle.std.specs.Coded.{Coded, code_by, coded×, coded_ℕ}
 use Rattle.sqlite.specs.Order.{Row}
-use Rattle.sqlite.specs.State.{State}
+use Rattle.sqlite.specs.State.{HasCleanDisk, State}
 use Rattle.sqlite.specs.Tree.{Trees}
+use Rattle.replica.specs.Site.{SiteState}
 use Rattle.site_journal.specs.declared.step.Step.{Step}
+use Rattle.stored_steps.specs.Bases.{IsRowOfBase}
 use Rattle.stored_steps.specs.Stored.{Stored}
 use Rattle.site_store.specs.Steps.{Holds, LeavesOnly, Lists}
+use Rattle.step_database.specs.declared.ready_base.ReadyBase.{ReadyBase}
 use Rattle.step_database.specs.Standing.{StandForSteps, StoreOrigin, origin_code}
 
 -- what contracts see of a store: its connection, of which site it is, and the position of the next row
@@ -15,7 +18,7 @@ pub record DatabaseState (C : Type 0) : Type 0 where
   pub origin : StoreOrigin
   pub next : ℕ
 
--- it is stored as the tuple of its fields
+-- a store's state is stored as the tuple of its fields
 abbrev pub database_code : {C : Type 0} → Coded C → Coded (DatabaseState C)
 database_code {C} conn =
     code_by (C × (StoreOrigin × ℕ)) (coded× conn (coded× origin_code coded_ℕ)) (λ d. (d.conn, (d.origin, d.next))) (λ p. record { conn = p.0; origin = p.1.0; next = p.1.1 }) (λ _. refl)
@@ -29,6 +32,10 @@ pub record Stores (s : State) (origin : StoreOrigin) (next : ℕ) (steps : List 
   pub leaves : LeavesOnly s first rows
   pub stand : StandForSteps origin rows steps
 
+-- if the disk is clean, a database stores just these steps
+abbrev pub StoresIfClean : State → StoreOrigin → ℕ → List Step → Type 0
+StoresIfClean s origin next steps = HasCleanDisk s → Stores s origin next steps
+
 -- the rows of a table stand for these steps, and maybe for more behind them
 pub record BeginsWith (table : List Row) (origin : StoreOrigin) (steps : List Step) : Type 0 where
   pub first : ℕ
@@ -40,3 +47,11 @@ pub record BeginsWith (table : List Row) (origin : StoreOrigin) (steps : List St
 -- the rows of each outcome of a crash stand for these steps, and maybe for more behind them
 abbrev pub Keeps : State → StoreOrigin → List Step → Type 0
 Keeps s origin steps = (db : Trees) → s.may_leave db → BeginsWith (db 0) origin steps
+
+-- if the disk is clean, each outcome of a crash has these steps, and maybe more
+abbrev pub KeepsIfClean : State → StoreOrigin → List Step → Type 0
+KeepsIfClean s origin steps = HasCleanDisk s → Keeps s origin steps
+
+-- a base that is ready for a store is that of this site
+abbrev pub IsBaseOf : ReadyBase → SiteState → Type 0
+IsBaseOf base site = IsRowOfBase (record { replica = site; name = base.name; starts = base.starts }) base.row

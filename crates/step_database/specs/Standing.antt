@@ -19,7 +19,7 @@ pub record StoreOrigin : Type 0 where
   pub name : List ℕ
   pub starts : ℕ
 
--- it is stored as the tuple of its fields
+-- an origin is stored as the tuple of its fields
 abbrev pub origin_code : Coded StoreOrigin
 origin_code =
     code_by (SiteState × (List ℕ × ℕ)) (coded× site_code (coded× (coded_list coded_ℕ) coded_ℕ)) (λ o. (o.begun, (o.name, o.starts))) (λ p. record { begun = p.0; name = p.1.0; starts = p.1.1 }) (λ _. refl)

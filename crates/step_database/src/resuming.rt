@@ -16,7 +16,8 @@ use site_store::{OpenFault, ResumedSite, keep_rows, resume};
 use sqlite::{Alter, Connection};
 use std::alloc::Global;
 
-// The site that goes on over a connection. If `keeps`, its store keeps rows from then on.
+// The site that goes on over a connection. If `keeps`, its store keeps rows from then on. Errors,
+// in order: those of `resume`; those of `keep_rows`, after which the row of this start stands.
 pub(crate) fn resume_site<S: Alter>(
     alloc: Global,
     conn: &mut Connection<S>,

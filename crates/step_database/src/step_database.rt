@@ -9,7 +9,7 @@ ghost use Rattle.site_store.specs.Kept.{HoldsAll};
 ghost use Rattle.site_store.specs.Resumed.{IsResumed};
 ghost use Rattle.site_store.specs.Steps.{Holds, IsStoreSchema, kept_schema};
 ghost use Rattle.site_store.specs.declared.open_fault.OpenFault.{OpenFault};
-ghost use Rattle.step_database.specs.Databases.{Keeps, Stores};
+ghost use Rattle.step_database.specs.Databases.{KeepsIfClean, StoresIfClean};
 
 use crate::ready_base::ReadyBase;
 use crate::resuming::resume_site;
@@ -73,10 +73,8 @@ impl<S: Alter + Drop> StepDatabase<S> {
         ensures name { result.0.origin.name ≡ resumed.site.name }
         ensures starts { result.0.origin.starts ≡ min (resumed.site.starts + 1) (2 ^ 64 - 1) }
         ensures conn { result.0.conn ≡ conn }
-        ensures holds { HasCleanDisk (state S.Store result.0.conn)
-            → Stores (state S.Store result.0.conn) result.0.origin result.0.next [] }
-        ensures keeps { HasCleanDisk (state S.Store result.0.conn)
-            → Keeps (state S.Store result.0.conn) result.0.origin [] }
+        ensures holds { StoresIfClean (state S.Store result.0.conn) result.0.origin result.0.next [] }
+        ensures keeps { KeepsIfClean (state S.Store result.0.conn) result.0.origin [] }
     {
         let ResumedSite {
             site,
@@ -105,7 +103,8 @@ impl<S: Alter + Drop> StepDatabase<S> {
     /// this start is added, in a commit of its own. If `keeps`, the store keeps from then on the rows in whose place a base is put; else it
     /// does so only if it has begun to.
     ///
-    /// Errors, in order: `NoStore`, if the database hasn't the tables of a store; those of `resume` and `keep_rows` of `site_store`.
+    /// Errors, each of which drops the connection, in order: `NoStore`, if the database hasn't the tables of a store; those of `resume` of
+    /// `site_store`; those of its `keep_rows`, after which the row of this start stands.
     pub fn resume(
         alloc: Global,
         conn: Connection<S>,
@@ -138,10 +137,10 @@ impl<S: Alter + Drop> StepDatabase<S> {
             → HoldsAll (state S.Store it.0.conn) first kept (rows ++ start_row ∷ [])) }
         ensures clean { IfOk result (λ it. HasCleanDisk (state S.Store it.0.conn)
             → HasCleanDisk (state S.Store conn)) }
-        ensures holds { IfOk result (λ it. HasCleanDisk (state S.Store it.0.conn)
-            → Stores (state S.Store it.0.conn) it.0.origin it.0.next []) }
-        ensures keeps { IfOk result (λ it. HasCleanDisk (state S.Store it.0.conn)
-            → Keeps (state S.Store it.0.conn) it.0.origin []) }
+        ensures holds { IfOk result (λ it.
+            StoresIfClean (state S.Store it.0.conn) it.0.origin it.0.next []) }
+        ensures keeps { IfOk result (λ it.
+            KeepsIfClean (state S.Store it.0.conn) it.0.origin []) }
     {
         let mut conn = conn;
         if !is_store_schema(conn.schema()) {
@@ -182,10 +181,8 @@ impl<S: Alter + Drop> StepDatabase<S> {
 
 impl<S: Alter + Drop> StepStore for StepDatabase<S> {
     ghost use Rattle.sqlite.specs.Held.{state};
-    ghost use Rattle.sqlite.specs.State.{HasCleanDisk};
-    ghost use Rattle.stored_steps.specs.Bases.{IsRowOfBase};
     ghost use Rattle.step_database.specs.Standing.{AreRowsOf};
-    ghost use Rattle.step_database.specs.Databases.{Keeps, Stores};
+    ghost use Rattle.step_database.specs.Databases.{IsBaseOf, KeepsIfClean, StoresIfClean};
 
     type Group = Vec<StoredRow>;
 
@@ -193,22 +190,21 @@ impl<S: Alter + Drop> StepStore for StepDatabase<S> {
 
     ghost groups = { λ group steps. AreRowsOf group.items steps };
 
-    ghost bases = { λ base site.
-        IsRowOfBase (record { replica = site; name = base.name; starts = base.starts }) base.row };
+    ghost bases = { λ base site. IsBaseOf base site };
 
-    ghost holds = { λ store list. HasCleanDisk (state S.Store store.conn)
-        → Stores (state S.Store store.conn) store.origin store.next list };
+    ghost holds = { λ store list.
+        StoresIfClean (state S.Store store.conn) store.origin store.next list };
 
-    ghost keeps = { λ store list. HasCleanDisk (state S.Store store.conn)
-        → Keeps (state S.Store store.conn) store.origin list };
+    ghost keeps = { λ store list. KeepsIfClean (state S.Store store.conn) store.origin list };
 
     ghost begun = { λ store. store.origin.begun };
 
+    // The rows of the steps that have one. Fails only when out of memory.
     fn group(&self, steps: &[Step]) -> Result<Vec<StoredRow>, Memory> {
         rows_of_steps(self.alloc, steps)
     }
 
-    // Where no step of the group has a row there is nothing to commit.
+    // Where no step of the group has a row there is nothing to commit. An error leaves the position of the next row, and the growth.
     fn commit(&mut self, group: Vec<StoredRow>) -> Result<(), CommitFault> {
         if group.is_empty() {
             drop(group);
@@ -222,7 +218,7 @@ impl<S: Alter + Drop> StepStore for StepDatabase<S> {
         Ok(())
     }
 
-    // The new base has the store's name and counts all starts.
+    // The new base has the store's name and counts all starts. Fails only when out of memory.
     fn base(&self, site: Replica) -> Result<ReadyBase, Memory> {
         let row = row_of_base(self.alloc, &site, &self.name, self.starts);
         drop(site);
@@ -233,7 +229,8 @@ impl<S: Alter + Drop> StepStore for StepDatabase<S> {
         })
     }
 
-    // It refuses a base that was made for another store.
+    // A base that was made for another store is refused with `Other`, and nothing is done. After Ok the growth is 0; an error leaves it,
+    // and the position of the next row.
     fn replace_base(&mut self, base: ReadyBase) -> Result<(), CommitFault> {
         if base.name != self.name || base.starts != self.starts {
             drop(base);
@@ -246,7 +243,7 @@ impl<S: Alter + Drop> StepStore for StepDatabase<S> {
         Ok(())
     }
 
-    // After a start it counts the steps since the base and that start, and of their bytes the frames.
+    // It counts the rows behind the base, with those of starts, and the bytes of their bodies.
     fn since_base(&self) -> Growth {
         self.growth
     }

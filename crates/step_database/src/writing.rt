@@ -1,13 +1,12 @@
 //! What a store writes: the rows of steps, and a base in the place of rows.
-ghost use Rattle.std.specs.Prelude.{◌≡◌, ◌⊎◌, ◌+◌, ◌++◌, ◌∷◌, [], ℕ, List, IfOk, OnOk};
+ghost use Rattle.std.specs.Prelude.{◌≡◌, ◌+◌, ◌++◌, ◌∷◌, [], ℕ, List, IfOk, OnOk};
 ghost use Rattle.std.specs.Prelude.{length};
 ghost use Rattle.sqlite.specs.Held.{state};
 ghost use Rattle.sqlite.specs.State.{HasCleanDisk};
-ghost use Rattle.sqlite.specs.Tree.{Trees};
 ghost use Rattle.site_journal.specs.declared.step.Step.{Step};
 ghost use Rattle.stored_steps.specs.StepRows.{IsWithinLimits, rows_of};
 ghost use Rattle.stored_steps.specs.Stored.{Stored};
-ghost use Rattle.site_store.specs.Kept.{HoldsAll, LeavesAll, ListsAll};
+ghost use Rattle.site_store.specs.Kept.{AddsToAll, CommitsAll, CommitsToAll, HoldsAll, LeavesAll};
 ghost use Rattle.step_database.specs.Standing.{AreRowsOf, StandForSteps, StoreOrigin};
 ghost use Rattle.step_database.specs.Databases.{Keeps, Stores};
 
@@ -19,7 +18,7 @@ use std::alloc::Global;
 use stored_desk::{CommitFault, Growth};
 use stored_steps::{StoredRow, row_of_step};
 
-// Adds the row of a step, if it has one.
+// Adds the row of a step, if it has one. Fails only when out of memory.
 fn add_row(alloc: Global, rows: &mut Vec<StoredRow>, step: &Step) -> Result<(), Memory>
     ensures added { OnOk result (rows.new.items ≡ rows.old.items ++ rows_of (step.now ∷ [])) }
     ensures within { OnOk result (IsWithinLimits step.now) }
@@ -30,7 +29,7 @@ fn add_row(alloc: Global, rows: &mut Vec<StoredRow>, step: &Step) -> Result<(), 
     Ok(())
 }
 
-// The rows of steps, in their order.
+// The rows of steps, in their order. Fails only when out of memory.
 pub(crate) fn rows_of_steps(alloc: Global, steps: &[Step]) -> Result<Vec<StoredRow>, Memory>
     ensures { IfOk result (λ rows. AreRowsOf rows.items steps.now) }
 {
@@ -41,7 +40,7 @@ pub(crate) fn rows_of_steps(alloc: Global, steps: &[Step]) -> Result<Vec<StoredR
     Ok(rows)
 }
 
-// How much a store has stored once these rows are added.
+// How much a store has stored once these rows are added: each number is at most 2^64 - 1. No contract says how much.
 pub(crate) fn grown(growth: Growth, rows: &[StoredRow]) -> Growth {
     let mut bytes = growth.bytes;
     for row in rows {
@@ -53,7 +52,8 @@ pub(crate) fn grown(growth: Growth, rows: &[StoredRow]) -> Growth {
     }
 }
 
-// Why a commit has failed, of the database's error.
+// Why a commit has failed, by the database's error: `Full`; `Device`, if the disk fails, or the database is damaged or closed; else `Other`.
+// No contract says this.
 fn commit_fault(error: Error) -> CommitFault {
     match error {
         Error::SqliteFailure(ErrorCode::DiskFull) => CommitFault::Full,
@@ -64,7 +64,9 @@ fn commit_fault(error: Error) -> CommitFault {
     }
 }
 
-// Adds rows from position `at` on, which is the next, in one commit. Returns the position that is the next then.
+// Adds rows from position `at` on, which is the next, in one commit, and returns the next position then. Whatever it returns, a crash
+// keeps the rows from before; after Ok these too. Errors: `Other`, where the next position then passes `LAST_POSITION`; else by the
+// database's error, and the store is to be opened again.
 pub(crate) fn append_rows<S: Alter>(
     conn: &mut Connection<S>,
     at: u64,
@@ -79,17 +81,9 @@ pub(crate) fn append_rows<S: Alter>(
         → Stores (state S.Store conn.old) origin at steps → AreRowsOf rows.now more
         → Keeps (state S.Store conn.new) origin steps }
     // The rows that the store has kept stay, also over a crash.
-    ensures spared { HasCleanDisk (state S.Store conn.new) → (first : ℕ) (kept list : List Stored)
-        → HoldsAll (state S.Store conn.old) first kept list
-        → at ≡ first + length kept + length list
-        → OnOk result (HoldsAll (state S.Store conn.new) first kept (list ++ rows.now)
-        × LeavesAll (state S.Store conn.new) first kept (list ++ rows.now)) }
-    ensures spared_crash { HasCleanDisk (state S.Store conn.new)
-        → (first : ℕ) (kept list : List Stored)
-        → HoldsAll (state S.Store conn.old) first kept list
-        → at ≡ first + length kept + length list
-        → (db : Trees) → (state S.Store conn.new).may_leave db
-        → (state S.Store conn.old).may_leave db ⊎ ListsAll db first kept (list ++ rows.now) }
+    ensures spared { AddsToAll (state S.Store conn.old) (state S.Store conn.new) at rows.now result }
+    ensures spared_crash { CommitsToAll (state S.Store conn.old) (state S.Store conn.new) at rows.now }
+    // A disk that is clean after the call was clean before it.
     ensures clean { HasCleanDisk (state S.Store conn.new) → HasCleanDisk (state S.Store conn.old) }
 {
     let count = rows.len() as u64;
@@ -102,8 +96,9 @@ pub(crate) fn append_rows<S: Alter>(
     }
 }
 
-// Puts the row of a base at position `at`, which is the next, in the place of all rows, in one commit. Returns the position that is the next
-// then.
+// Puts the row of a base at position `at`, which is the next, in the place of all rows, in one commit, and returns the next position then.
+// Whatever it returns, a crash leaves the rows from before or the base; after Ok the base. Errors: `Other`, where `at` passes
+// `LAST_POSITION`, or a transaction is open; else by the database's error, and the store is to be opened again.
 pub(crate) fn put_base<S: Alter>(
     conn: &mut Connection<S>,
     at: u64,
@@ -129,9 +124,8 @@ pub(crate) fn put_base<S: Alter>(
         → (first : ℕ) (kept list : List Stored)
         → HoldsAll (state S.Store conn.old) first kept list
         → at ≡ first + length kept + length list
-        → (db : Trees) → (state S.Store conn.new).may_leave db
-        → (state S.Store conn.old).may_leave db
-        ⊎ ListsAll db first (kept ++ list) (row.now ∷ []) }
+        → CommitsAll (state S.Store conn.old) (state S.Store conn.new)
+        first (kept ++ list) (row.now ∷ []) }
     ensures clean { HasCleanDisk (state S.Store conn.new) → HasCleanDisk (state S.Store conn.old) }
 {
     if at > LAST_POSITION {

@@ -14,7 +14,7 @@ pub enum CopyFault {
     /// A page of the file is damaged.
     #[error("damaged file")]
     Damaged,
-    /// A position is missing between two rows, or there are too many.
+    /// A row but the first hasn't the next position.
     #[error("a row is missing")]
     Gap,
     /// The database failed, for this cause.
@@ -25,7 +25,9 @@ pub enum CopyFault {
     Memory,
 }
 
-// What an error of a read is, as the fault of a copy.
+// What an error of a read is, as the fault of a copy: `Damaged` where its code says that;
+// `Memory` where it says that, or that a file in memory failed; else `Database`. No contract
+// says which.
 pub(crate) fn read_fault(error: Error) -> CopyFault
     ensures { result ≢ CopyFault.NoStore }
 {
@@ -38,7 +40,8 @@ pub(crate) fn read_fault(error: Error) -> CopyFault
     }
 }
 
-// What an error of an open is, as the fault of a copy.
+// What an error of an open is, as the fault of a copy: `NoStore` where the file is no database,
+// else as of a read.
 pub(crate) fn open_fault(error: Error) -> CopyFault
     ensures { result ≡ CopyFault.NoStore → error ≡ SqliteFailure NotADatabase }
 {

@@ -6,7 +6,7 @@ use dots::Memory as OutOfMemory;
 use sqlite_disk::{Disk, Memory};
 use std::alloc::Global;
 
-// A file in memory that has these bytes.
+// A file in memory that has these bytes. Fails only when out of memory.
 pub(crate) fn disk_of(alloc: Global, bytes: &[u8]) -> Result<Memory, OutOfMemory>
     ensures bytes { IfOk result (λ disk. memory_bytes disk ≡ bytes.now) }
     ensures usable { IfOk result (λ disk. IsTrue (memory_is_usable disk)) }

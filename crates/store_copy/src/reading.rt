@@ -23,7 +23,7 @@ use std::alloc::Global;
 // A database over files in memory.
 type Copied = Connection<FileStore<Memory>>;
 
-// The two files in memory that have these bytes.
+// The two files in memory that have these bytes, and can be used. The fault is `Memory`.
 fn files_of(alloc: Global, bytes: &StoreBytes) -> Result<Files<Memory>, CopyFault>
     ensures image { IfOk result (λ files. image_in files ≡ image_of bytes.now) }
     ensures log { IfOk result (λ files. IsTrue (memory_is_usable files.log)) }
@@ -42,7 +42,8 @@ fn files_of(alloc: Global, bytes: &StoreBytes) -> Result<Files<Memory>, CopyFaul
     }
 }
 
-// A connection to the database that two files hold.
+// A connection to the database that two files hold, both of which can be used. Fails with the database's error, as `open_fault` has it:
+// `NoStore`, if the file is no database.
 fn connect(alloc: Global, files: Files<Memory>) -> Result<Copied, CopyFault>
     requires log { IsTrue (memory_is_usable files.log) }
     requires db { IsTrue (memory_is_usable files.db) }
@@ -60,7 +61,7 @@ fn connect(alloc: Global, files: Files<Memory>) -> Result<Copied, CopyFault>
     }
 }
 
-// A connection to the database that the bytes of two files hold.
+// A connection to the database that the bytes of two files hold. Errors: `Memory`; those of `connect`.
 fn open_bytes(alloc: Global, bytes: &StoreBytes) -> Result<Copied, CopyFault>
     ensures opened { IfOk result (λ conn. IsOpened conn) }
     ensures found { IfOk result (λ conn. FindsIn (image_of bytes.now) (file_state conn)) }
@@ -71,7 +72,8 @@ fn open_bytes(alloc: Global, bytes: &StoreBytes) -> Result<Copied, CopyFault>
     connect(alloc, files)
 }
 
-// All rows of the store that a connection shows.
+// All rows of the store that a connection shows. Errors, in order: those of the database, as `read_fault` has them; `Gap`, if a row but the
+// first hasn't the next position.
 fn read_store<S: Alter>(alloc: Global, conn: &mut Connection<S>) -> Result<Listed, CopyFault>
     ensures kept { HasCleanDisk (state S.Store conn.new)
         → (state S.Store conn.old).now.schema ≡ kept_schema
@@ -88,7 +90,8 @@ fn read_store<S: Alter>(alloc: Global, conn: &mut Connection<S>) -> Result<Liste
     }
 }
 
-// All rows of the database that a connection shows, which must be a store.
+// All rows of the database that a connection shows. Errors, in order: `NoStore`, if it has other tables than those of a store; those of
+// `read_store`.
 fn read_rows<S: Alter>(alloc: Global, conn: &mut Connection<S>) -> Result<Listed, CopyFault>
     ensures schema { IfOk result (λ it. IsStoreSchema (state S.Store conn.old).now.schema) }
     ensures rows { HasCleanDisk (state S.Store conn.new)
@@ -103,14 +106,14 @@ fn read_rows<S: Alter>(alloc: Global, conn: &mut Connection<S>) -> Result<Listed
     read_store(alloc, conn)
 }
 
-/// All rows of the store that the bytes of its files hold, in the order of their positions: where the store keeps rows those in whose place a
-/// base was put, and then those of the table of steps. The rows are read from a copy in memory: a call takes memory for both files
-/// twice, and for the rows.
+/// All rows of the store that the bytes of its files hold, in the order of their positions: where the store keeps rows those in whose place
+/// a base was put, and then those of the table of steps. The rows are read from a copy in memory: a call takes memory for both files twice,
+/// and for the rows.
 ///
 /// Errors, in order: `NoStore`, if the file has at most one byte; `NoStore`, if the file is no database; `Damaged`, if a page of it is
 /// damaged; `Database`, if the database fails in another way; `NoStore`, if it has other tables than those of a store; `Damaged` and
-/// `Database` again, if the rows can't be read; `Gap`, if a position is missing between two rows. `Memory` may stand in place of each
-/// but the first.
+/// `Database` again, if the rows can't be read; `Gap`, if a row but the first hasn't the next position. `Memory` may replace each but the
+/// first.
 pub fn rows_of_bytes(alloc: Global, bytes: &StoreBytes) -> Result<Listed, CopyFault>
     // Of a store that keeps rows all are read.
     ensures kept { (db : Trees) → HoldsSchema bytes.now kept_schema db

@@ -11,7 +11,8 @@ pub struct StoreBytes {
     pub log: Vec<u8>,
 }
 
-// The bytes of the log at a path, none where it is missing.
+// The bytes of the log at a path, none where it is missing. Fails with every other error of the read. No contract says what is read,
+// here and below.
 fn read_log<R: Files + AllocGlobal>(rt: &R, path: &str) -> io::Result<Vec<u8>> {
     match fs::read(rt, path) {
         Err(error) if error.kind() == ErrorKind::NotFound => Ok(Vec::new(rt.alloc())),

@@ -1,8 +1,5 @@
 use Rattle.site_files.proofs.NewStore.{if_ok}
 use Rattle.site_files.proofs.opening.open_site_file.Goals as goal
 
-pub returns-clause-new : goal.returns-clause-new
-returns-clause-new g c = if_ok c.new_site_file-made.result _ _ (λ it new _. new) c.new_site_file-made.ensures.new
-
 pub returns-clause-first : goal.returns-clause-first
 returns-clause-first g c = if_ok c.new_site_file-made.result _ _ (λ it first _. first) c.new_site_file-made.ensures.first

@@ -1,22 +1,19 @@
-use Rattle.std.proofs.Common.{inl, inr}
+use Rattle.std.proofs.Common.{rules}
 use Rattle.sqlite.specs.Held.{state}
-use Rattle.site_store.proofs.StepLemmas.{commits_no_read, finds, finds_same}
+use Rattle.site_store.specs.Steps.{IsStoreSchema}
+use Rattle.site_store.proofs.StepLemmas.{commits_no_read, finds, finds_same, only_reads}
 use Rattle.site_store.proofs.reading.query_rows.Goals as goal
 
 pub returns-clause-listed : goal.returns-clause-listed
 returns-clause-listed g c clean has = finds (state g.S.Store c.args.conn.now) (state g.S.Store c.query_all.new.self) c.in_ok-rows.rows.items has (c.in_ok-rows.ensures.ok clean)
 
-pub returns-clause-same : goal.returns-clause-same
-returns-clause-same g c clean has = finds_same (state g.S.Store c.args.conn.now) (state g.S.Store c.query_all.new.self) c.in_ok-rows.rows.items has (c.in_ok-rows.ensures.ok clean)
+pub returns-clause-reads : goal.returns-clause-reads
+returns-clause-reads g c =
+    let old = state g.S.Store c.args.conn.now in
+    let new = state g.S.Store c.query_all.new.self in
+    only_reads IsStoreSchema old new _ _ c.query_all.ensures.survives (λ has db. commits_no_read old db has) (λ clean has. finds_same old new c.in_ok-rows.rows.items has (c.in_ok-rows.ensures.ok clean))
 
-pub returns-clause-crash : goal.returns-clause-crash
-returns-clause-crash g c clean has db may = elim (c.query_all.ensures.survives.crash clean db may) [
-  | inl was ↦ was
-  | inr commits ↦ absurd (commits_no_read (state g.S.Store c.args.conn.now) db has commits)
-]
-
-pub returns-in_err-rows-clause-crash : goal.returns-in_err-rows-clause-crash
-returns-in_err-rows-clause-crash g c clean has db may = elim (c.query_all.ensures.survives.crash clean db may) [
-  | inl was ↦ was
-  | inr commits ↦ absurd (commits_no_read (state g.S.Store c.args.conn.now) db has commits)
-]
+pub returns-in_err-rows-clause-reads : goal.returns-in_err-rows-clause-reads
+returns-in_err-rows-clause-reads g c =
+    let old = state g.S.Store c.args.conn.now in
+    only_reads IsStoreSchema old (state g.S.Store c.query_all.new.self) _ _ c.query_all.ensures.survives (λ has db. commits_no_read old db has) (λ clean has. search rules)
