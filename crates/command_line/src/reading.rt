@@ -1,9 +1,9 @@
 ghost use Rattle.std.specs.Prelude.{◌≡◌, ◌≢◌, ◌≤◌, IfOk, IfSome, IsSomeAnd, None, Ok, OnErr, OnOk, Some};
-ghost use Rattle.std.specs.Prelude.{map, string_bytes, true, vec_len};
+ghost use Rattle.std.specs.Prelude.{length, map, string_bytes, true, vec_len};
 
 use crate::exit::Exit;
 use crate::secret_file::{SecretFault, read_secret};
-use crate::site_request::{SiteAddresses, SiteRequest};
+use crate::site_request::{MOST_PEERS, SiteAddresses, SiteRequest};
 use crate::steps_request::StepsRequest;
 use crate::store_request::StoreRequest;
 use crate::words::{
@@ -16,15 +16,12 @@ use dots::{QueueName, SiteId, Text80};
 use link_keys::Key;
 use replica::{ListFault, QueueList};
 use scripts::SiteCount;
-use serving_clients::{ServerSettings, SessionSettings};
+use serving_clients::{PlaceCount, ServerSettings, SessionSettings, SettingsFault};
 use std::alloc::{AllocError, Global};
 use std::io;
 use std::net::{IpAddr, SocketAddr};
 use std::rt::{Env, Files};
 use std::time::Duration;
-
-// How many peers a site may have: all sites, itself among them.
-const MOST_PEERS: usize = 64;
 
 // How many files an audit may have: a store of each site.
 const MOST_FILES: usize = 64;
@@ -59,17 +56,22 @@ pub enum Request {
 enum Refusal {
     // They are wrong, for this cause.
     Wrong(&'static str),
+    // No server has these settings.
+    Settings(SettingsFault),
     // The file of a secret, of this kind, can't be read.
     Unreadable(&'static str, io::Error),
     // An allocation was refused.
     Memory,
 }
 
-/// Reads the command line, and checks its words in this order: the words by clap; `--keep` without `--store`; the number of sites of a
-/// script, the address of a server, the addresses of a site for clients, for links and of its peers, and their number, or the number of
-/// files of an audit; the list of queues; the file of the secret; user, secret and greeting; of a site the file of the secret of links, and
-/// that secret. Prints the first error to standard error, and returns `Done(WrongWords)`; out of memory, and a file that can't be read, are
-/// `Done(Failed)`. Prints help and version to standard output. `Err`: that printing failed (the words are this project's own).
+/// Reads the command line, and checks its words. Errors, in order: words that are no text; those of clap, which checks the ranges of
+/// numbers too; `--keep` without `--store`; the address of a server; the addresses of a site for clients, for links and of its peers, and
+/// more than 64 peers; more than 64 files of an audit; the list of queues; the file of the secret; the secret; user or greeting; of a site
+/// the file of the secret of links, and that secret.
+///
+/// Prints the first error to standard error, and returns `Done(WrongWords)`; out of memory, and a file that can't be read, are
+/// `Done(Failed)`. Prints help and version to standard output, and returns `Done(Done)`. `Err`: that printing failed. No contract says this
+/// (the words are this project's own).
 pub fn read_command_line<R: Env + Files + AllocGlobal + Print + Eprint>(
     rt: &R,
 ) -> io::Result<Request> {
@@ -99,6 +101,7 @@ pub fn read_command_line<R: Env + Files + AllocGlobal + Print + Eprint>(
     }
 }
 
+// The words of the command line, the program's name first. Errors: the first word that is no text; out of memory.
 fn words<R: Env + AllocGlobal>(rt: &R) -> io::Result<Vec<String>> {
     let mut words = Vec::new(rt.alloc());
     for word in std::env::args(rt)? {
@@ -107,7 +110,7 @@ fn words<R: Env + AllocGlobal>(rt: &R) -> io::Result<Vec<String>> {
     Ok(words)
 }
 
-// What these words ask for. A refusal is printed.
+// What these words ask for. A refusal is printed, and leads to `Done`. `Err`: that printing failed.
 fn request_or_refused<R: Files + AllocGlobal + Eprint>(
     rt: &R,
     words: CommandWords<'_>,
@@ -126,11 +129,16 @@ fn request_or_refused<R: Files + AllocGlobal + Eprint>(
     }
 }
 
-// Prints why words are refused.
+// Prints why words are refused. Returns `Done(Failed)` if a file can't be read or memory ran out, else `Done(WrongWords)`. `Err`: the
+// printing failed.
 fn refused<R: Eprint>(rt: &R, refusal: Refusal) -> io::Result<Request> {
     let exit = match refusal {
         Refusal::Wrong(why) => {
             eprintln!(rt; "queue_sites: {why}")?;
+            Exit::WrongWords
+        }
+        Refusal::Settings(fault) => {
+            eprintln!(rt; "queue_sites: {fault}")?;
             Exit::WrongWords
         }
         Refusal::Unreadable(what, error) => {
@@ -145,6 +153,7 @@ fn refused<R: Eprint>(rt: &R, refusal: Refusal) -> io::Result<Request> {
     Ok(Request::Done(exit))
 }
 
+// What `script` asks for. Refused, in order: a number of sites that isn't 1 to 64 (clap lets none through); the queues, as by `queue_list`.
 fn script_request(alloc: Global, words: &ScriptWords<'_>) -> Result<Request, Refusal> {
     let Some(sites) = SiteCount::new(words.sites) else {
         return Err(Refusal::Wrong("bad number of sites"));
@@ -153,10 +162,12 @@ fn script_request(alloc: Global, words: &ScriptWords<'_>) -> Result<Request, Ref
     Ok(Request::Script(sites, list))
 }
 
+// What `serve` asks for. Refused, in order: `--keep` without `--store`; the address; what `queue_list` refuses; what `server_settings`
+// does; out of memory.
 fn serve_request<R: Files + AllocGlobal>(rt: &R, words: &ServeWords<'_>) -> Result<Request, Refusal>
     ensures numbers { (it : _) (list : _) (store : _) → result ≡ Ok (Request.Serve it list store)
         → (it.sites ≡ words.now.sites) × (it.port ≡ words.now.port)
-        × (it.places ≡ words.now.session.places) }
+        × (it.session.places ≡ words.now.session.places) }
     ensures volatile { (it : _) (list : _) (store : _)
         → result ≡ Ok (Request.Serve it list store) → words.now.store.path ≡ None
         → store ≡ None }
@@ -171,35 +182,29 @@ fn serve_request<R: Files + AllocGlobal>(rt: &R, words: &ServeWords<'_>) -> Resu
         return Err(Refusal::Wrong("bad address"));
     };
     let list = queue_list(rt.alloc(), &words.queues)?;
-    let session = match session_settings(rt, &words.session) {
-        Ok(session) => session,
+    let settings = match server_settings(rt, words, address) {
+        Ok(settings) => settings,
         Err(refusal) => {
             drop(list);
             return Err(refusal);
         }
     };
-    let store = match store_of(rt.alloc(), words.store) {
-        Ok(store) => store,
+    match store_of(rt.alloc(), words.store) {
+        Ok(store) => Ok(Request::Serve(settings, list, store)),
         Err(_) => {
             drop(list);
-            drop(session);
-            return Err(Refusal::Memory);
+            drop(settings);
+            Err(Refusal::Memory)
         }
-    };
-    let settings = ServerSettings {
-        sites: words.sites,
-        places: words.session.places,
-        address,
-        port: words.port,
-        session,
-    };
-    Ok(Request::Serve(settings, list, store))
+    }
 }
 
+// What `site` asks for. Refused, in order: a number above 63 (clap lets none through); `--keep` without `--store`; what `addresses_of`
+// refuses; what `queue_list` does; what `secrets_of` does; out of memory.
 fn site_request<R: Files + AllocGlobal>(rt: &R, words: &SiteWords<'_>) -> Result<Request, Refusal>
     ensures number { (it : _) → result ≡ Ok (Request.Site it) → it.site ≡ words.now.number }
     ensures places { (it : _) → result ≡ Ok (Request.Site it)
-        → it.places ≡ words.now.session.places }
+        → it.session.places ≡ words.now.session.places }
     ensures clients { (it : _) → result ≡ Ok (Request.Site it)
         → string_bytes it.addresses.clients ≡ words.now.clients.now }
     ensures links { (it : _) → result ≡ Ok (Request.Site it)
@@ -219,35 +224,42 @@ fn site_request<R: Files + AllocGlobal>(rt: &R, words: &SiteWords<'_>) -> Result
         return Err(Refusal::Wrong("bad number of a site"));
     };
     check_store(words.store)?;
-    check_addresses(words)?;
-    let list = queue_list(rt.alloc(), &words.queues)?;
+    let addresses = addresses_of(rt.alloc(), words)?;
+    let list = match queue_list(rt.alloc(), &words.queues) {
+        Ok(list) => list,
+        Err(refusal) => {
+            drop(addresses);
+            return Err(refusal);
+        }
+    };
     let (session, key) = match secrets_of(rt, words) {
         Ok(secrets) => secrets,
         Err(refusal) => {
+            drop(addresses);
             drop(list);
             return Err(refusal);
         }
     };
-    let (store, addresses) = match places_of(rt.alloc(), words) {
-        Ok(places) => places,
+    match store_of(rt.alloc(), words.store) {
+        Ok(store) => Ok(Request::Site(SiteRequest {
+            site,
+            list,
+            session,
+            key,
+            store,
+            addresses,
+        })),
         Err(_) => {
+            drop(addresses);
             drop(list);
             drop(session);
             drop(key);
-            return Err(Refusal::Memory);
+            Err(Refusal::Memory)
         }
-    };
-    Ok(Request::Site(SiteRequest {
-        site,
-        list,
-        places: words.session.places,
-        session,
-        key,
-        store,
-        addresses,
-    }))
+    }
 }
 
+// What `audit` asks for. Refused, in order: more than 64 files; out of memory.
 fn audit_request(alloc: Global, files: &[&str]) -> Result<Request, Refusal>
     ensures files { (paths : _) → result ≡ Ok (Request.Audit paths)
         → map string_bytes paths.items ≡ map (λ file. file.now) files.now }
@@ -262,6 +274,7 @@ fn audit_request(alloc: Global, files: &[&str]) -> Result<Request, Refusal>
     }
 }
 
+// What `steps` asks for. Refused: out of memory.
 fn steps_request(alloc: Global, words: StepsWords<'_>) -> Result<Request, Refusal>
     ensures path { (it : _) → result ≡ Ok (Request.Steps it)
         → string_bytes it.path ≡ words.entry.path.now }
@@ -276,7 +289,7 @@ fn steps_request(alloc: Global, words: StepsWords<'_>) -> Result<Request, Refusa
     }
 }
 
-// Checks that no rows are kept where nothing is stored.
+// Checks that no rows are kept where nothing is stored. Refused: `--keep` without `--store`.
 fn check_store(words: StoreWords<'_>) -> Result<(), Refusal>
     ensures keeps { OnErr result (words.entry.keeps ≡ true) }
     ensures nowhere { OnErr result (words.entry.path ≡ None) }
@@ -289,8 +302,11 @@ fn check_store(words: StoreWords<'_>) -> Result<(), Refusal>
     }
 }
 
-// Checks the addresses of a site, and how many peers it has.
-fn check_addresses(words: &SiteWords<'_>) -> Result<(), Refusal> {
+// Checks the addresses of a site, and how many peers it has. Refused, in order: the address of clients; of links; of a peer; more than 64
+// peers.
+fn check_addresses(words: &SiteWords<'_>) -> Result<(), Refusal>
+    ensures { OnOk result (vec_len words.now.peers ≤ MOST_PEERS) }
+{
     if !is_address(words.clients) {
         return Err(Refusal::Wrong("bad address of clients"));
     }
@@ -308,7 +324,8 @@ fn check_addresses(words: &SiteWords<'_>) -> Result<(), Refusal> {
     Ok(())
 }
 
-// Whether a word is an IPv4 address, an IPv6 address in brackets or the name of a host, a colon, and a port.
+// Whether a word is an IPv4 address, an IPv6 address in brackets or the name of a host, a colon, and a port. Any text without a colon, but
+// the empty one, counts as a name.
 fn is_address(word: &str) -> bool {
     if word.parse::<SocketAddr>().is_ok() {
         return true;
@@ -321,8 +338,10 @@ fn is_address(word: &str) -> bool {
     }
 }
 
-// The settings of a site's sessions, and the key of its links.
-fn secrets_of<R: Files>(rt: &R, words: &SiteWords<'_>) -> Result<(SessionSettings, Key), Refusal> {
+// The settings of a site's sessions, and the key of its links. Refused, in order: what `session_settings` refuses; what `link_key` does.
+fn secrets_of<R: Files>(rt: &R, words: &SiteWords<'_>) -> Result<(SessionSettings, Key), Refusal>
+    ensures { IfOk result (λ it. it.0.places ≡ words.now.session.places) }
+{
     let session = session_settings(rt, &words.session)?;
     match link_key(rt, words.link_secret) {
         Ok(key) => Ok((session, key)),
@@ -333,7 +352,8 @@ fn secrets_of<R: Files>(rt: &R, words: &SiteWords<'_>) -> Result<(SessionSetting
     }
 }
 
-// The key of links, whose secret is the first line of this file.
+// The key of links, whose secret is the first line of this file. Refused, in order: a file that can't be read; a first line that is no text
+// of 16 to 80 bytes.
 fn link_key<R: Files>(rt: &R, file: &str) -> Result<Key, Refusal> {
     let secret = match read_secret(rt, file) {
         Ok(secret) => secret,
@@ -348,61 +368,39 @@ fn link_key<R: Files>(rt: &R, file: &str) -> Result<Key, Refusal> {
     Ok(Key::of_secret(secret.as_bytes()))
 }
 
-// A site's store, and its addresses.
-fn places_of(
-    alloc: Global,
-    words: &SiteWords<'_>,
-) -> Result<(Option<StoreRequest>, SiteAddresses), AllocError>
-    ensures clients { IfOk result (λ it. string_bytes it.1.clients ≡ words.now.clients.now) }
-    ensures links { IfOk result (λ it. string_bytes it.1.links ≡ words.now.links.now) }
-    ensures peers { IfOk result (λ it. map string_bytes it.1.peers.items
-        ≡ map (λ peer. peer.now) words.now.peers.items) }
-    ensures none { words.now.store.path ≡ None → IfOk result (λ it. it.0 ≡ None) }
-    ensures path { (path : _) → words.now.store.path ≡ Some path
-        → IfOk result (λ it. IsSomeAnd it.0 (λ store. string_bytes store.path ≡ path.now)) }
-    ensures keeps { IfOk result (λ it. IfSome it.0 (λ store. store.keeps ≡ words.now.store.keeps)) }
-{
-    let addresses = addresses_of(alloc, words)?;
-    match store_of(alloc, words.store) {
-        Ok(store) => Ok((store, addresses)),
-        Err(error) => {
-            drop(addresses);
-            Err(error)
-        }
-    }
-}
-
-fn addresses_of(alloc: Global, words: &SiteWords<'_>) -> Result<SiteAddresses, AllocError>
+// The addresses of a site. Refused, in order: what `check_addresses` refuses; out of memory.
+fn addresses_of(alloc: Global, words: &SiteWords<'_>) -> Result<SiteAddresses, Refusal>
     ensures clients { IfOk result (λ it. string_bytes it.clients ≡ words.now.clients.now) }
     ensures links { IfOk result (λ it. string_bytes it.links ≡ words.now.links.now) }
     ensures peers { IfOk result (λ it. map string_bytes it.peers.items
         ≡ map (λ peer. peer.now) words.now.peers.items) }
 {
-    let peers = copies_of(alloc, &words.peers)?;
-    let clients = match String::from_str(alloc, words.clients) {
-        Ok(clients) => clients,
-        Err(error) => {
-            drop(peers);
-            return Err(error);
-        }
+    check_addresses(words)?;
+    let Ok(peers) = copies_of(alloc, &words.peers) else {
+        return Err(Refusal::Memory);
     };
-    let links = match String::from_str(alloc, words.links) {
-        Ok(links) => links,
-        Err(error) => {
+    let Ok(clients) = String::from_str(alloc, words.clients) else {
+        drop(peers);
+        return Err(Refusal::Memory);
+    };
+    match String::from_str(alloc, words.links) {
+        Ok(links) => Ok(SiteAddresses {
+            clients,
+            links,
+            peers,
+        }),
+        Err(_) => {
             drop(peers);
             drop(clients);
-            return Err(error);
+            Err(Refusal::Memory)
         }
-    };
-    Ok(SiteAddresses {
-        clients,
-        links,
-        peers,
-    })
+    }
 }
 
+// Copies of these words, in order. It fails only when out of memory.
 fn copies_of(alloc: Global, words: &[&str]) -> Result<Vec<String>, AllocError>
-    ensures { IfOk result (λ copies.
+    ensures number { IfOk result (λ copies. vec_len copies ≡ length words.now) }
+    ensures texts { IfOk result (λ copies.
         map string_bytes copies.items ≡ map (λ word. word.now) words.now) }
 {
     let mut copies = Vec::new(alloc);
@@ -412,7 +410,7 @@ fn copies_of(alloc: Global, words: &[&str]) -> Result<Vec<String>, AllocError>
     Ok(copies)
 }
 
-// The store that is named, if one is.
+// The store that is named, if one is. It fails only when out of memory.
 fn store_of(alloc: Global, words: StoreWords<'_>) -> Result<Option<StoreRequest>, AllocError>
     ensures none { words.entry.path ≡ None → IfOk result (λ store. store ≡ None) }
     ensures path { (path : _) → words.entry.path ≡ Some path
@@ -428,7 +426,8 @@ fn store_of(alloc: Global, words: StoreWords<'_>) -> Result<Option<StoreRequest>
     }
 }
 
-// The secret that a client logs in with.
+// The secret that a client logs in with. Refused, in order: a file that can't be read; a secret that is no text of at most 80 bytes, or
+// with which no client can log in.
 fn secret_of<R: Files>(rt: &R, word: SecretWord<'_>) -> Result<Text80, Refusal> {
     let secret = match word {
         SecretWord::Here(word) => Text80::new(word.as_bytes()).ok(),
@@ -450,21 +449,32 @@ fn secret_of<R: Files>(rt: &R, word: SecretWord<'_>) -> Result<Text80, Refusal> 
     }
 }
 
-// The settings of sessions. The secret is read first.
-fn session_settings<R: Files>(
-    rt: &R,
-    words: &SessionWords<'_>,
-) -> Result<SessionSettings, Refusal> {
+// The settings of sessions. Refused, in order: a number of places that isn't 1 to 64 (clap lets none through); the secret's file; the
+// secret; user or greeting.
+fn session_settings<R: Files>(rt: &R, words: &SessionWords<'_>) -> Result<SessionSettings, Refusal>
+    ensures { IfOk result (λ it. it.places ≡ words.now.places) }
+{
+    let Some(places) = PlaceCount::new(words.places) else {
+        return Err(Refusal::Wrong("bad number of sessions"));
+    };
     let secret = secret_of(rt, words.secret)?;
-    match settings_with(words, secret) {
+    match settings_with(words, places, secret) {
         Some(settings) => Ok(settings),
         None => Err(Refusal::Wrong(BAD_TEXT)),
     }
 }
 
-// The settings of sessions with this secret. `None`: a user or greeting is refused.
-fn settings_with(words: &SessionWords<'_>, secret: Text80) -> Option<SessionSettings> {
+// The settings of sessions with this number of places and this secret. 0 seconds of silence are without end; the patience is the limit of a
+// login and of a write. `None`: user or greeting is refused.
+fn settings_with(
+    words: &SessionWords<'_>,
+    places: PlaceCount,
+    secret: Text80,
+) -> Option<SessionSettings>
+    ensures { IfSome result (λ it. it.places ≡ places) }
+{
     let mut session = SessionSettings::new(login_text(words.user)?, secret);
+    session.places = places;
     if let Some(greeting) = words.greeting {
         session.greeting = Some(Text80::new(greeting.as_bytes()).ok()?);
     }
@@ -478,12 +488,29 @@ fn settings_with(words: &SessionWords<'_>, secret: Text80) -> Option<SessionSett
     Some(session)
 }
 
-// A word that a client can log in with.
+// The settings of the sites that these words serve at this address. Refused, in order: what `session_settings` refuses; a number of sites
+// that isn't 1 to 8; a port that isn't 1 to 65,528 (clap lets neither through).
+fn server_settings<R: Files>(
+    rt: &R,
+    words: &ServeWords<'_>,
+    address: IpAddr,
+) -> Result<ServerSettings, Refusal>
+    ensures sites { IfOk result (λ it. it.sites ≡ words.now.sites) }
+    ensures port { IfOk result (λ it. it.port ≡ words.now.port) }
+    ensures places { IfOk result (λ it. it.session.places ≡ words.now.session.places) }
+{
+    let session = session_settings(rt, &words.session)?;
+    ServerSettings::new(words.sites, address, words.port, session).map_err(Refusal::Settings)
+}
+
+// A word that a client can log in with. `None`: the word is no text of at most 80 bytes, or none can log in with it.
 fn login_text(word: &str) -> Option<Text80> {
     let text = Text80::new(word.as_bytes()).ok()?;
     is_login_word(&text).then_some(text)
 }
 
+// The list of the queues with these names, in their order. Refused, in order: the first bad name, or out of memory before it; a list that
+// `QueueList` refuses.
 fn queue_list(alloc: Global, queues: &[&str]) -> Result<QueueList, Refusal> {
     let mut names = Vec::new(alloc);
     for queue in queues {

@@ -18,7 +18,8 @@ pub(crate) enum SecretFault {
     NotText,
 }
 
-// Reads until the piece is full or the file has ended. Returns the number of bytes read.
+// Reads until the piece is full or the file has ended, at most 1,000 times. Returns the number of bytes read. The first error of a read
+// ends it.
 fn read_front<F: Read>(file: &mut F, piece: &mut [u8]) -> Result<usize, io::Error> {
     let mut count = 0usize;
     for _ in 0..READS {
@@ -34,7 +35,7 @@ fn read_front<F: Read>(file: &mut F, piece: &mut [u8]) -> Result<usize, io::Erro
     Ok(count)
 }
 
-// The first line of these bytes, without its end.
+// The first line of these bytes, without its LF; all of them if they have none. One CR at its end is left out in both cases.
 fn first_line(bytes: &[u8]) -> &[u8] {
     let line = match bytes.iter().position(|byte| *byte == b'\n') {
         Some(end) => &bytes[..end],
@@ -43,7 +44,7 @@ fn first_line(bytes: &[u8]) -> &[u8] {
     line.strip_suffix(b"\r").unwrap_or(line)
 }
 
-// Reads the secret that is the first line of a file.
+// Reads the secret that is the first line of a file, of which 83 bytes are read at most. Errors, in order: `Unreadable`, `NotText`.
 pub(crate) fn read_secret<R: Files>(rt: &R, name: &str) -> Result<Text80, SecretFault> {
     let mut file = match fs::open(rt, name) {
         Ok(file) => file,

@@ -1,8 +1,14 @@
+ghost use Rattle.std.specs.Prelude.{◌≤◌, vec_len};
+ghost use Rattle.command_line.specs.declared.site_request.TheConstants.{MOST_PEERS};
+
 use crate::store_request::StoreRequest;
 use dots::SiteId;
 use link_keys::Key;
 use replica::QueueList;
 use serving_clients::SessionSettings;
+
+/// How many peers a site may have: all sites, itself among them.
+pub const MOST_PEERS: usize = 64;
 
 /// Where a site is reached, and its peers. Each address is that of a host, by its name or number, and a port.
 #[derive(Drop)]
@@ -13,6 +19,7 @@ pub struct SiteAddresses {
     pub links: String,
     /// The peers that it connects to, at most 64; its own address may be among them.
     pub peers: Vec<String>,
+    pub ghost few_peers: { vec_len peers ≤ MOST_PEERS },
 }
 
 /// A site that is served in a process of its own, and linked to others.
@@ -22,8 +29,6 @@ pub struct SiteRequest {
     pub site: SiteId,
     /// Its queues.
     pub list: QueueList,
-    /// How many clients it answers at once, 1 to 64.
-    pub places: u16,
     /// The settings of its sessions.
     pub session: SessionSettings,
     /// The key of the secret that all sites share.

@@ -1,4 +1,4 @@
-//! The words of a command line, by clap.
+//! The words of a command line, by clap. Each function but `right_words` fails only when out of memory.
 ghost use Rattle.std.specs.Prelude.{◌≡◌, IfOk, None, Some, codes, false, map, option_map, true};
 ghost use Rattle.clap.specs.Matches.{first_value, found_of, matched_of, one_text, raw_values};
 
@@ -116,6 +116,7 @@ pub(crate) enum CommandWords<'a> {
 }
 
 impl Defaults {
+    // The defaults of `serve`.
     fn of_serve(&self) -> SessionDefaults<'_> {
         SessionDefaults {
             idle: self.idle.as_str(),
@@ -124,6 +125,7 @@ impl Defaults {
         }
     }
 
+    // The defaults of `site`: 16 places and 600 seconds of silence; the patience is that of `serve`.
     fn of_site(&self) -> SessionDefaults<'_> {
         SessionDefaults {
             idle: SITE_IDLE_SECONDS,
@@ -133,6 +135,7 @@ impl Defaults {
     }
 }
 
+// The defaults of `serve`, as text. It fails only when out of memory.
 pub(crate) fn default_texts(alloc: Global) -> Result<Defaults, AllocError> {
     let idle = format!(in alloc; "{IDLE_SECONDS}")?;
     let patience = format!(in alloc; "{PATIENCE_SECONDS}")?;
@@ -144,7 +147,7 @@ pub(crate) fn default_texts(alloc: Global) -> Result<Defaults, AllocError> {
     })
 }
 
-// Whether a word names a file of the secret, so that the command line has no secret.
+// Whether a word before `--` names a file of the secret, so that the command line has no secret.
 fn names_secret_file(words: &[String]) -> bool {
     for word in words {
         match word.as_str() {
@@ -157,7 +160,8 @@ fn names_secret_file(words: &[String]) -> bool {
     false
 }
 
-// The words of a command line that clap accepts.
+// The words of a command line that clap accepts, the program's name first. Errors are clap's: words that are wrong, a wish for help or
+// version, out of memory.
 pub(crate) fn right_words<'a>(
     alloc: Global,
     words: &'a [String],
@@ -170,7 +174,7 @@ pub(crate) fn right_words<'a>(
     Ok(found?)
 }
 
-// The words of the subcommand that was found.
+// The words of the subcommand that was found; of `script` without any if none was, which clap rules out. It fails only when out of memory.
 fn words_of<'a>(alloc: Global, matches: &ArgMatches<'a>) -> Result<CommandWords<'a>, AllocError> {
     if let Some(serve) = matches.subcommand_matches("serve") {
         return serve_words(alloc, serve).map(CommandWords::Serve);
@@ -193,6 +197,7 @@ fn words_of<'a>(alloc: Global, matches: &ArgMatches<'a>) -> Result<CommandWords<
     }
 }
 
+// The words of `script`.
 fn script_words<'a>(alloc: Global, script: &ArgMatches<'a>) -> Result<ScriptWords<'a>, AllocError> {
     Ok(ScriptWords {
         sites: script.get_one::<u16>("SITES").unwrap_or(0),
@@ -200,6 +205,7 @@ fn script_words<'a>(alloc: Global, script: &ArgMatches<'a>) -> Result<ScriptWord
     })
 }
 
+// The words about sessions. What clap requires is there; else it would be 0 or empty.
 fn session_words<'a>(matches: &ArgMatches<'a>) -> SessionWords<'a> {
     let secret = match matches.get_str("secret-file") {
         Some(file) => SecretWord::InFile(file),
@@ -216,6 +222,7 @@ fn session_words<'a>(matches: &ArgMatches<'a>) -> SessionWords<'a> {
     }
 }
 
+// The words about stores.
 fn store_words<'a>(matches: &ArgMatches<'a>) -> StoreWords<'a>
     ensures path { option_map (λ path. path.now) result.path
         ≡ first_value (found_of matches.now) (codes "store") }
@@ -230,6 +237,7 @@ fn store_words<'a>(matches: &ArgMatches<'a>) -> StoreWords<'a>
     }
 }
 
+// The words of `serve`.
 fn serve_words<'a>(alloc: Global, serve: &ArgMatches<'a>) -> Result<ServeWords<'a>, AllocError> {
     Ok(ServeWords {
         sites: serve.get_one::<u16>("SITES").unwrap_or(0),
@@ -241,6 +249,7 @@ fn serve_words<'a>(alloc: Global, serve: &ArgMatches<'a>) -> Result<ServeWords<'
     })
 }
 
+// The words of `site`.
 fn site_words<'a>(alloc: Global, site: &ArgMatches<'a>) -> Result<SiteWords<'a>, AllocError>
     ensures clients { (text : _) → first_value (found_of site.now) (codes "clients") ≡ Some text
         → IfOk result (λ it. it.clients.now ≡ text) }
@@ -269,6 +278,7 @@ fn site_words<'a>(alloc: Global, site: &ArgMatches<'a>) -> Result<SiteWords<'a>,
     })
 }
 
+// The words of `steps`.
 fn steps_words<'a>(steps: &ArgMatches<'a>) -> StepsWords<'a>
     ensures path { (text : _) → first_value (found_of steps.now) (codes "FILE") ≡ Some text
         → result.path.now ≡ text }
@@ -283,7 +293,7 @@ fn steps_words<'a>(steps: &ArgMatches<'a>) -> StepsWords<'a>
     }
 }
 
-// The words of an argument that may stand several times.
+// The words of an argument that may stand several times, in order; none if it doesn't stand. It fails only when out of memory.
 fn strings_of<'a>(
     alloc: Global,
     matches: &ArgMatches<'a>,
@@ -299,7 +309,7 @@ fn strings_of<'a>(
     Ok(words)
 }
 
-// A number of sites or of a site.
+// The argument for a number of sites or of a site, from `least` to `most`.
 fn sites<'a>(alloc: Global, name: &'a str, help: &'a str, least: i64, most: i64) -> Arg<'a> {
     Arg::new(alloc, name)
         .help(help)
@@ -307,6 +317,7 @@ fn sites<'a>(alloc: Global, name: &'a str, help: &'a str, least: i64, most: i64)
         .value_parser(value_parser!(u16).range(least..=most))
 }
 
+// The argument for the port of site 0.
 fn port<'a>(alloc: Global) -> Arg<'a> {
     Arg::new(alloc, "PORT")
         .help("The port of site 0, 1 to 65528; site 1 has the next one, and so on")
@@ -314,10 +325,12 @@ fn port<'a>(alloc: Global) -> Arg<'a> {
         .value_parser(value_parser!(u16).range(1..=65_528))
 }
 
+// The argument for a word that a client logs in with.
 fn login_word<'a>(alloc: Global, name: &'a str, help: &'a str) -> Arg<'a> {
     Arg::new(alloc, name).help(help).required(true)
 }
 
+// An option that has a value.
 fn option<'a>(alloc: Global, name: &'a str, value: &'a str, help: &'a str) -> Arg<'a> {
     Arg::new(alloc, name)
         .long(name)
@@ -325,6 +338,7 @@ fn option<'a>(alloc: Global, name: &'a str, value: &'a str, help: &'a str) -> Ar
         .help(help)
 }
 
+// An option that has no value.
 fn flag<'a>(alloc: Global, name: &'a str, help: &'a str) -> Arg<'a> {
     Arg::new(alloc, name)
         .long(name)
@@ -332,6 +346,7 @@ fn flag<'a>(alloc: Global, name: &'a str, help: &'a str) -> Arg<'a> {
         .help(help)
 }
 
+// The argument for the names of queues: one or more.
 fn queues<'a>(alloc: Global) -> Arg<'a> {
     Arg::new(alloc, "QUEUE")
         .help("The names of the queues, in their order")
@@ -340,6 +355,7 @@ fn queues<'a>(alloc: Global) -> Arg<'a> {
         .action(ArgAction::Append)
 }
 
+// The subcommand `script`.
 fn script<'a>(alloc: Global) -> Result<Command<'a>, AllocError> {
     Command::new(alloc, "script")
         .about("Runs a script from standard input")
@@ -347,7 +363,7 @@ fn script<'a>(alloc: Global) -> Result<Command<'a>, AllocError> {
         .arg(queues(alloc))
 }
 
-// The files of stores.
+// The argument for the files of stores: one or more.
 fn files<'a>(alloc: Global) -> Arg<'a> {
     Arg::new(alloc, "FILE")
         .help("The stores of all sites, 1 to 64 files in any order")
@@ -356,6 +372,7 @@ fn files<'a>(alloc: Global) -> Arg<'a> {
         .action(ArgAction::Append)
 }
 
+// The subcommand `audit`.
 fn audit<'a>(alloc: Global) -> Result<Command<'a>, AllocError> {
     Command::new(alloc, "audit")
         .about("Writes one list of events that explains the stores of all sites, as a script")
@@ -363,6 +380,7 @@ fn audit<'a>(alloc: Global) -> Result<Command<'a>, AllocError> {
         .arg(files(alloc))
 }
 
+// The subcommand `steps`.
 fn steps<'a>(alloc: Global) -> Result<Command<'a>, AllocError> {
     let file = Arg::new(alloc, "FILE")
         .help("The file of the store")
@@ -373,6 +391,7 @@ fn steps<'a>(alloc: Global) -> Result<Command<'a>, AllocError> {
         .arg(flag(alloc, "frames", "Writes each frame in hexadecimal, too"))
 }
 
+// An option that has a value, which has a default.
 fn number<'a>(
     alloc: Global,
     name: &'a str,
@@ -422,7 +441,7 @@ fn push<'a>(args: &mut Vec<Arg<'a>>, arg: Arg<'a>) -> Result<(), AllocError> {
     Ok(())
 }
 
-// The option of a store with this value, and the flag that the store keeps rows.
+// Adds the option of a store with this value, and the flag that the store keeps rows.
 fn push_store_options<'a>(
     alloc: Global,
     args: &mut Vec<Arg<'a>>,
@@ -535,6 +554,7 @@ fn site_args<'a>(alloc: Global, defaults: &'a Defaults) -> Result<Vec<Arg<'a>>, 
     Ok(args)
 }
 
+// The subcommand `serve`.
 fn serve<'a>(
     alloc: Global,
     defaults: &'a Defaults,
@@ -553,6 +573,7 @@ fn store_or_volatile<'a>(alloc: Global) -> Result<ArgGroup<'a>, AllocError> {
     Ok(group.required(true))
 }
 
+// The subcommand `site`.
 fn site<'a>(alloc: Global, defaults: &'a Defaults) -> Result<Command<'a>, AllocError> {
     let args = site_args(alloc, defaults)?;
     let command = Command::new(alloc, "site")
@@ -568,7 +589,7 @@ fn site<'a>(alloc: Global, defaults: &'a Defaults) -> Result<Command<'a>, AllocE
     }
 }
 
-// A list with a command at its end, if there is memory for both.
+// The list with the command at its end. It fails if the command did, or when out of memory, and drops the list.
 fn with<'a>(
     mut list: Vec<Command<'a>>,
     command: Result<Command<'a>, AllocError>,
@@ -577,6 +598,7 @@ fn with<'a>(
     Ok(list)
 }
 
+// All subcommands, in the order of the help.
 fn subcommands<'a>(
     alloc: Global,
     defaults: &'a Defaults,
@@ -589,6 +611,7 @@ fn subcommands<'a>(
     with(list, steps(alloc))
 }
 
+// What clap knows of the command line. It fails only when out of memory.
 fn command<'a>(
     alloc: Global,
     defaults: &'a Defaults,

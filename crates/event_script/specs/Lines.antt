@@ -102,7 +102,7 @@ can_say (event.Cut site) = true
 can_say (event.Whole site) = true
 can_say (event.Take site entry) = nat_lt entry 1000000000
 
--- the start of a line that gives nothing
+-- the mark before a line that says no event; nothing before another
 abbrev pub comment_mark : Bool → List ℕ
 comment_mark said = if said then [] else codes "# "
 

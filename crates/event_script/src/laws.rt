@@ -14,9 +14,9 @@ ghost use Rattle.event_script.specs.Shown.{ShowsJournals};
 
 use scripts::laws::script_has_one_text;
 
-/// The script of a list of events that is one run of journals shows what the journals say, if lines say all events: run over as many
-/// sites with the queues of the journals, it gives for each event what the next step of its site says. That is for an ask the
-/// site's stored answer. No line is left out, none isn't understood, and each site's steps are shown to the last.
+/// The script of a list of events that is one run of journals shows what the journals say, if lines say all events: run over as many sites
+/// with the queues of the journals, it gives for each event what the next step of its site says. For an ask that is the stored answer. No
+/// line is left out, none isn't understood, and each site's steps are shown to the last.
 pub fn a_script_of_a_run_shows_what_the_journals_say()
     ensures { (journals : List JournalState) (events : List Event) (before after : List ℕ)
         (unknown : ℕ) → length journals ≤ SITES → IsRun journals events

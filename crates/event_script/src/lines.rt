@@ -1,4 +1,5 @@
-//! The line of a script for an event.
+//! The line of a script for an event. Each function appends to `line`. It fails only when out of memory, and then leaves a part of its
+//! text.
 ghost use Rattle.std.specs.Prelude.{◌≡◌, ◌++◌, [], codes, decimal, IfOk, IfSome, OnOk};
 ghost use Rattle.std.specs.List.{flat_map};
 ghost use Rattle.dots.specs.Values.{IsName, IsPenalty, IsSite, IsText};
@@ -16,7 +17,7 @@ use replica::Command;
 use sites_world::Event;
 use status_report::Ask;
 
-// Appends a field behind a bar.
+// Appends a field behind a bar: its name, `: ` and its value.
 fn push_part(line: &mut Vec<u8>, name: &[u8], value: &[u8]) -> Result<(), Memory>
     ensures { OnOk result (line.new.items
         ≡ line.old.items ++ field_text (name.now, value.now)) }
@@ -40,7 +41,7 @@ fn push_part_if_any(line: &mut Vec<u8>, name: &[u8], value: &Text80) -> Result<(
     push_part(line, name, bytes)
 }
 
-// Appends the fields of a label behind bars.
+// Appends the fields of a label behind bars; an empty one is left out.
 #[tactic(auto, using(crate::proofs::Wording::label_text))]
 fn push_label(line: &mut Vec<u8>, label: &Label) -> Result<(), Memory>
     ensures text { OnOk result (line.new.items ≡ line.old.items
@@ -51,7 +52,7 @@ fn push_label(line: &mut Vec<u8>, label: &Label) -> Result<(), Memory>
     push_part_if_any(line, b"StateInterface", &label.state)
 }
 
-// Appends the field of a queue behind a bar, if there is a queue.
+// Appends the field of a queue behind a bar; nothing if there is no queue.
 fn push_queue(line: &mut Vec<u8>, queue: &Option<QueueName>) -> Result<(), Memory>
     ensures text { OnOk result (line.new.items ≡ line.old.items
         ++ flat_map field_text (queue_field queue.now)) }
@@ -94,7 +95,7 @@ fn push_yes_or_no(line: &mut Vec<u8>, name: &[u8], yes: bool) -> Result<(), Memo
     }
 }
 
-// Appends the words for a message of this action, up to its first field.
+// Appends the words for a message of this action, up to the bar of its next field.
 fn push_action(line: &mut Vec<u8>, action: &[u8]) -> Result<(), Memory>
     ensures { OnOk result (line.new.items
         ≡ line.old.items ++ (codes "ami Action: " ++ action.now)) }
@@ -241,7 +242,8 @@ fn push_front(line: &mut Vec<u8>, said: bool, site: SiteId) -> Result<(), Memory
     line.extend_from_slice(b" ")
 }
 
-/// Appends the line of an event. Returns whether it says the event. Fails only when out of memory.
+/// Appends the line of an event, without its end: a comment if no line can say the event. Returns whether it says it. Fails only when
+/// out of memory.
 pub fn push_event(line: &mut Vec<u8>, event: &Event) -> Result<bool, Memory>
     ensures said { IfOk result (λ said. said ≡ can_say event.now) }
     ensures text { OnOk result (line.new.items ≡ line.old.items ++ event_line event.now) }

@@ -27,7 +27,8 @@ fn has_bar(text: &[u8]) -> bool
     text.iter().any(|b| *b == b'|')
 }
 
-// Whether a text can stand between bars: it has no bar, and no space or tab at its ends.
+// Whether a text can stand between bars: it has no bar, and no space or tab at its ends. An
+// empty text can.
 fn is_plain(text: &[u8]) -> bool
     ensures { result ≡ is_plain text.now }
 {
@@ -37,7 +38,7 @@ fn is_plain(text: &[u8]) -> bool
     !has_bar(text) && !is_blank(text[0]) && !is_blank(text[text.len() - 1])
 }
 
-// Whether the name of a queue, if there is one, can stand between bars.
+// Whether the name of a queue can stand between bars; true where there is none.
 fn is_plain_queue(queue: &Option<QueueName>) -> bool
     ensures { (more : List (List ℕ)) → list_all is_plain (queue_text queue.now ++ more)
         ≡ (result && list_all is_plain more) }
@@ -90,7 +91,8 @@ fn is_plain_command(command: &Command) -> bool
     }
 }
 
-/// Whether a line of a script can say an event.
+/// Whether a line of a script can say an event: not a status, nor a command with a text
+/// that can't stand between bars, nor a take of an entry from 1,000,000,000 on.
 pub fn can_say(event: &Event) -> bool
     ensures { result ≡ can_say event.now }
 {

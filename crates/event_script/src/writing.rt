@@ -14,7 +14,8 @@ use std::alloc::Global;
 // The room in bytes that a line has at first: most need no more.
 const LINE_ROOM: usize = 128;
 
-// Writes the line of an event. Returns whether it says the event.
+// Writes the line of an event. Returns whether it says the event. Errors, in order: `Memory`, and nothing was written; `Write`, after a
+// prefix of the line.
 fn write_event<W: Sink>(alloc: Global, writer: &mut W, event: &Event) -> Result<bool, EventsFault>
     requires writer { W.failed writer.old ≡ false }
     ensures said { IfOk result (λ said. said ≡ can_say event.now) }

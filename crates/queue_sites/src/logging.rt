@@ -28,6 +28,7 @@ fn new_events(alloc: Global) -> Option<Arc<EventLog, Global>> {
     Arc::new(alloc, events).ok()
 }
 
+// The end of a log that isn't written yet. `None`: out of memory.
 fn new_end(alloc: Global) -> Option<Arc<LogEnd, Global>> {
     let end = LogEnd {
         is_written: Mutex::new(false),
@@ -61,14 +62,15 @@ impl Logging {
         }
     }
 
-    // Writes the log to its end.
+    // Writes the log to its end, and wakes who waits for that in `end`.
     fn write<R: Wait + Eprint>(&self, rt: &R) {
         self.events.write_until_end(rt);
         *self.end.is_written.lock(rt) = true;
         self.end.changed.notify_all();
     }
 
-    // An empty log, and a thread that writes it. Error: why there is none.
+    // Begins an empty log, and a thread that writes it until `end` is called. Error, in order: `out of memory`,
+    // `no thread`.
     pub fn start<R: AllocGlobal + Threads + Wait + Eprint + Copy + Send + 'static>(
         rt: &R,
     ) -> Result<Logging, &'static str> {
@@ -97,7 +99,7 @@ impl Logging {
         }
     }
 
-    // Ends the log, and waits until it is written, for 2 seconds at most.
+    // Ends the log, and waits until the lines that it has are written, for 2 seconds at most.
     pub fn end<R: Wait + Clock>(&self, rt: &R) {
         self.events.end(rt);
         let held = self.end.is_written.lock(rt);

@@ -25,6 +25,7 @@ use std::thread::Threads;
 use std::time::Clock;
 use system::System;
 
+// Ends the program with the status of its exit, or with 1 if a printing failed.
 fn main(rt: HostRuntime) -> ExitCode {
     match run(&rt, &rt) {
         Ok(exit) => ExitCode::from(exit.status()),
@@ -32,7 +33,7 @@ fn main(rt: HostRuntime) -> ExitCode {
     }
 }
 
-// Runs the program. `host` opens stores. `Err`: an error could not be printed.
+// Runs the program, and returns its exit. `host` opens stores. `Err`: a printing failed.
 fn run<
     R: Env
         + Files
@@ -60,13 +61,14 @@ fn run<
     }
 }
 
-// Prints why the program fails.
+// Prints why the program fails. Returns `Failed`. `Err`: that printing failed.
 pub(crate) fn failed<R: Eprint, F: Display>(rt: &R, why: &F) -> io::Result<Exit> {
     eprintln!(rt; "queue_sites: {why}")?;
     Ok(Exit::Failed)
 }
 
-// The exit status of a script. A fault is printed on standard error.
+// The exit of a script: `Done` if each line was understood, else `NotUnderstood`; `Failed` after a fault, which is printed on standard
+// error. `Err`: that printing failed.
 fn exit_of<R: Eprint>(rt: &R, end: Result<u64, ScriptFault>) -> io::Result<Exit> {
     match end {
         Ok(0) => Ok(Exit::Done),
@@ -75,7 +77,8 @@ fn exit_of<R: Eprint>(rt: &R, end: Result<u64, ScriptFault>) -> io::Result<Exit>
     }
 }
 
-// Serves what is requested until it ends or the program is stopped.
+// Serves what is requested until it ends or the program is stopped, and returns the exit; of a request that serves nothing `Done`. A fault
+// is printed. `Err`: that printing failed.
 fn serve_request<R: System>(
     rt: &R,
     host: &HostRuntime,
@@ -92,7 +95,8 @@ fn serve_request<R: System>(
     }
 }
 
-// Serves what is requested, and logs.
+// Serves what is requested, and logs; at its end it waits for the log, for 2 seconds at most. Without a log nothing is served: that is
+// printed, and the exit is `Failed`. `Err`: a printing failed.
 fn serve_logged<R: System + Send + Copy + 'static>(
     rt: &R,
     host: &HostRuntime,

@@ -6,7 +6,7 @@ use std::io;
 use std::rt::Files;
 use store_reports::{AuditEnd, ReportFault, audit_files, list_steps};
 
-// Prints why a report over the files at these paths was not written to its end.
+// Prints why a report over the files at these paths was not written to its end. Returns `Failed`. `Err`: that printing failed.
 fn refused<R: Eprint>(rt: &R, paths: &[String], fault: &ReportFault) -> io::Result<Exit> {
     if let ReportFault::File(file, cause) = fault {
         if let Some(path) = paths.get(*file) {
@@ -17,7 +17,8 @@ fn refused<R: Eprint>(rt: &R, paths: &[String], fault: &ReportFault) -> io::Resu
     failed(rt, fault)
 }
 
-// Prints where an audit ends, if a reader of its events needs to know.
+// Prints where an audit ends, if a reader of its events needs to know. Returns `Done` if the events explain the stores, else `Unexplained`.
+// `Err`: that printing failed.
 fn exit_of_audit<R: Eprint>(rt: &R, end: &AuditEnd) -> io::Result<Exit> {
     match end {
         AuditEnd::Explained { unsaid: 0 } => Ok(Exit::Done),
@@ -40,7 +41,8 @@ fn exit_of_audit<R: Eprint>(rt: &R, end: &AuditEnd) -> io::Result<Exit> {
     }
 }
 
-// Writes the events that explain the stores in these files.
+// Writes the events that explain the stores in these files to standard output. A fault is printed, and the exit is `Failed`. `Err`: that
+// printing failed.
 pub(crate) fn audit<R: Files + AllocGlobal + Print + Eprint>(
     rt: &R,
     paths: &[String],
@@ -52,7 +54,7 @@ pub(crate) fn audit<R: Files + AllocGlobal + Print + Eprint>(
     }
 }
 
-// Writes the steps of a store in words.
+// Writes the steps of a store in words to standard output. A fault is printed, and the exit is `Failed`. `Err`: that printing failed.
 pub(crate) fn list<R: Files + AllocGlobal + Print + Eprint>(
     rt: &R,
     request: &StepsRequest,

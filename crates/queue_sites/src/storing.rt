@@ -1,6 +1,5 @@
 //! Serves sites over stores, which are files.
 use crate::failed;
-use crate::serving::{are_in_range, refuse_numbers};
 use crate::system::System;
 use ami_text::StdSink;
 use command_line::{Exit, StoreRequest};
@@ -21,7 +20,8 @@ pub(crate) fn place_of(store: &StoreRequest) -> StorePath<'_> {
     }
 }
 
-// Serves sites, whose stores are in a folder, until the program is stopped. It ends if all sites have ended, and the log has said why.
+// Serves sites, whose stores are in a folder, until the program is stopped. It returns `Failed` if all sites have ended, and the log has
+// said why; or after a fault, which is printed. `Err`: that printing failed.
 pub(crate) fn serve<R: System>(
     rt: &R,
     host: &HostRuntime,
@@ -30,9 +30,6 @@ pub(crate) fn serve<R: System>(
     folder: &StoreRequest,
     events: &Arc<EventLog, Global>,
 ) -> io::Result<Exit> {
-    if !are_in_range(settings) {
-        return refuse_numbers(rt);
-    }
     let mut log = StdSink::new(io::writer(rt));
     match serve_site_files::<_, SiteDatabase, _>(
         rt,

@@ -34,8 +34,8 @@ pub enum Line<'a> {
     Unknown,
 }
 
-/// The first line of bytes, without its LF and one CR before that, and the bytes after it. The last line may lack its
-/// end.
+/// The first line of bytes, of which there is one at least, without its LF and one CR before that, and the bytes
+/// after it. The last line may lack its LF; then it stays as it is.
 pub fn cut_line(bytes: &[u8]) -> (&[u8], &[u8])
     requires { 0 < length bytes.now }
     ensures lines { lines_of bytes.now ≡ result.0.now ∷ lines_of result.1.now }
@@ -65,7 +65,7 @@ fn behind<'a>(front: &[u8], bytes: &'a [u8]) -> Option<&'a [u8]>
     bytes.strip_prefix(front)
 }
 
-// The ask of a site, by the words after its number.
+// The ask of a site, by the words after its number; `Unknown` of other words.
 fn read_words(site: SiteId, words: &[u8]) -> Line<'_>
     ensures { sense result ≡ words_sense site words.now }
 {

@@ -14,7 +14,7 @@ use std::alloc::Global;
 // The room in bytes that a stream has at first, beyond the bytes of its fields: most need no more.
 const MORE_ROOM: usize = 16;
 
-// Appends one line, with CR and LF after it.
+// Appends one line, with CR and LF after it. Fails only when out of memory, and may then leave a part.
 fn push_line(stream: &mut Vec<u8>, line: &[u8]) -> Result<(), Memory>
     ensures { OnOk result (stream.new.items ≡ stream.old.items ++ line.now ++ codes "\r\n") }
 {
@@ -22,7 +22,7 @@ fn push_line(stream: &mut Vec<u8>, line: &[u8]) -> Result<(), Memory>
     stream.extend_from_slice(b"\r\n")
 }
 
-// The stream of `fields`: a line for each part between bars, and an empty line after them.
+// The stream of `fields`: a line for each part between bars, and an empty line after them. Fails only when out of memory.
 fn stream_of(alloc: Global, fields: &[u8]) -> Result<Vec<u8>, Memory>
     ensures { IfOk result (λ stream. stream.items ≡ stream_of fields.now) }
 {
@@ -37,7 +37,7 @@ fn stream_of(alloc: Global, fields: &[u8]) -> Result<Vec<u8>, Memory>
     Ok(stream)
 }
 
-// A feed that holds the stream of `fields`, which is fed at once.
+// A feed that holds the stream of `fields`, which is fed at once. Fails only when out of memory.
 fn feed_of(alloc: Global, fields: &[u8]) -> Result<Feed, Memory>
     ensures { IfOk result (λ feed. feed ≡ record { held = stream_of fields.now; fault = None }) }
 {
@@ -59,7 +59,8 @@ fn without_message(fault: FeedFault) -> Result<Option<Message>, Memory>
     }
 }
 
-// `message` of the feed, if no other message and no fault follows; else `None`.
+// `message`, which the feed gave without a fault, if no other message and no fault follows; else `None`. Fails only when
+// out of memory.
 fn only_message(feed: Feed, message: Message) -> Result<Option<Message>, Memory>
     requires { feed.fault ≡ None }
     ensures one { IfOk result (λ found. IfSome found (λ only. only ≡ message)) }

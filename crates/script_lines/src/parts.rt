@@ -22,7 +22,8 @@ pub fn cut_at_bar(parts: &[u8]) -> (&[u8], Option<&[u8]>)
     }
 }
 
-/// The interfaces among the parts between bars; what is no interface is left out. Fails only when out of memory.
+/// The interfaces among the parts between bars, in order; what is no interface is left out. `None`: there are no
+/// parts. Fails only when out of memory.
 pub fn interfaces_of(alloc: Global, parts: Option<&[u8]>) -> Result<Vec<Interface>, Memory>
     ensures { IfOk result (λ tried. tried.items
         ≡ filter_map name_of (parts_of (option_copied parts.entry))) }

@@ -25,7 +25,7 @@ pub record StandsAt (state : WorldState) (w : World) : Type 0 where
   pub reached : IsReached state.names (length state.sites) w
   pub stands : StandsForWorld state w
 
--- an event has happened
+-- an event leads to the world that the sites then stand for, and has this outcome
 pub record IsHappening (place : ScriptSites) (w : World) (e : Event) (new : WorldState) (o : Outcome) : Type 0 where
   pub stands : StandsAt new (happens place.names w e).0
   pub is : o ≡ (happens place.names w e).1

@@ -1,7 +1,8 @@
 -- The text of a script: the output of its lines in order, over the world of operations.
-use Rattle.std.specs.Prelude.{ℕ, ◌≡◌, ◌≤◌, ◌+◌, ◌⊎◌, Bool, true, false, List, [], ◌∷◌, ◌++◌, length, slice_get, Option, Some, None, if◌then◌else◌}
+use Rattle.std.specs.Prelude.{ℕ, ◌≡◌, ◌≤◌, ◌+◌, ◌⊎◌, Bool, true, false, List, [], ◌∷◌, ◌++◌, length, slice_get, Option, Some, None, if◌then◌else◌, Result, IsErrOf}
 use Rattle.std.specs.Option.{option_and_then}
 use Rattle.std.specs.Io.KnownBytes.{Appends, Consumes}
+use Rattle.ami_text.specs.Devices.{HasGiven, HasGivenUpTo}
 use Rattle.delta.specs.declared.frame.Frame.{Frame}
 use Rattle.delta_codec.specs.Frames.{SpellsIn}
 use Rattle.delta_codec.specs.declared.limits.TheConstants.{VERSION}
@@ -23,6 +24,8 @@ use Rattle.sites_world.specs.Worlds.{Entry, World, happens, new_world}
 use Rattle.sites_world.specs.WorldStates.{IsFrameOf}
 use Rattle.status_report.specs.declared.asks.Ask.{Ask}
 use Rattle.status_report.specs.declared.asks.Ask.TheVariants as ask
+use Rattle.scripts.specs.declared.script_fault.ScriptFault.{ScriptFault}
+use Rattle.scripts.specs.declared.script_fault.ScriptFault.TheVariants.{Read, TooLong}
 use Rattle.scripts.specs.Answers.{frame_text, no_entry, offer_text, outcome_text, refused_text, refusal_name, unknown_text}
 use Rattle.script_lines.specs.ScriptLines.{Sense, Nothing, Message, Count, Offer, Cut, Whole, Take, Show, Unknown, IsMessage, lines_of, queue_in, sense_of, tried_in}
 
@@ -171,6 +174,14 @@ pub record HasDoneLines (place : ScriptSites) (w : World) (script : List ℕ) (b
   pub text : List ℕ
   pub is_done : AreDone place w 1 (lines_of script) text
   pub taken : Appends before after text
+
+-- the result of reading a script: `Read` if the source failed, and otherwise only after 1,000,000 bytes or more without an end;
+-- `TooLong` only after more than 16,777,216 bytes, and every other result only after at most that many
+pub record HasReadScript {T : Type 0} (left_before left_after : Option (List ℕ)) (ended failed : Bool) (result : Result T ScriptFault) : Type 0 where
+  pub read : IsErrOf result Read → (failed ≡ true) ⊎ ((ended ≡ false) × HasGiven left_before left_after 1000000)
+  pub fails : failed ≡ true → IsErrOf result Read
+  pub too_long : IsErrOf result TooLong → HasGiven left_before left_after (16777216 + 1)
+  pub few : (IsErrOf result TooLong → ⊥) → HasGivenUpTo left_before left_after 16777216
 
 -- a script of at most 16,777,216 bytes was read, and its text was written, over new sites
 pub record IsScriptRun (place : ScriptSites) (left_before left_after taken_before taken_after : Option (List ℕ)) (unknown : ℕ) : Type 0 where

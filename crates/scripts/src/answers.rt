@@ -1,4 +1,4 @@
-//! The lines that a script writes for the outcomes of its lines.
+//! The lines that a script writes for the outcomes of its lines. Each function fails only when out of memory.
 ghost use Rattle.std.specs.Prelude.{◌≡◌, codes, IfOk};
 ghost use Rattle.std.specs.Result.{result_ok};
 ghost use Rattle.scripts.specs.Answers.{answer_text, cut_fault_name, entry_text, frame_text};
@@ -130,7 +130,7 @@ fn offer_line(alloc: Global, offer: &Offer) -> Result<Vec<u8>, Memory>
     Ok(text)
 }
 
-/// The line of a queue's offer, where there is such a queue. Fails only when out of memory.
+/// The line of a queue's offer; where there is no such queue, its refusal. Fails only when out of memory.
 pub fn offer_text(
     alloc: Global,
     offered: Result<Option<Offer>, NoSuchQueue>,

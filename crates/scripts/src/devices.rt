@@ -1,8 +1,9 @@
 //! Reads a whole script, before any of its lines is run.
-ghost use Rattle.std.specs.Prelude.{◌≡◌, ◌≢◌, ◌≤◌, ◌<◌, ◌↔◌, ◌+◌, ◌⊎◌, ℕ, List, Option, Ok, true};
+ghost use Rattle.std.specs.Prelude.{◌≡◌, ◌≢◌, ◌≤◌, ◌<◌, ◌↔◌, ◌+◌, ℕ, List, Option, Ok, true};
 ghost use Rattle.std.specs.Prelude.{false, vec_len, IfOk, IfErr, OnOk, IsErrOf};
 ghost use Rattle.std.specs.Io.KnownBytes.{Consumes};
 ghost use Rattle.ami_text.specs.Devices.{HasEnded, HasGiven, HasGivenUpTo};
+ghost use Rattle.scripts.specs.Script.{HasReadScript};
 
 use crate::script_fault::ScriptFault;
 use ami_text::Source;
@@ -17,8 +18,8 @@ const MOST_READS: u32 = 1_000_000;
 /// The most bytes that a script may have.
 pub const MOST_BYTES: usize = 16_777_216;
 
-// Reads once, and puts the bytes at the end of `script`. Returns whether there were any. Errors: `Read` if the reader fails,
-// `TooLong`, `Memory`.
+// Reads once, and puts the bytes at the end of `script`. Returns whether there were any. Errors, in order: `Read` if the reader fails;
+// `TooLong` if the script would have more than 16,777,216 bytes; `Memory`. The bytes of this read are dropped then.
 fn read_piece<S: Source>(reader: &mut S, script: &mut Vec<u8>) -> Result<bool, ScriptFault>
     requires reader { S.failed reader.old ≡ false }
     requires short { vec_len script.old ≤ 16777216 }
@@ -57,8 +58,8 @@ fn read_piece<S: Source>(reader: &mut S, script: &mut Vec<u8>) -> Result<bool, S
     }
 }
 
-/// Reads the reader to its end, at most 1,000,000 times. Errors: `Read` if the reader fails, or doesn't end within 1,000,000
-/// reads; `TooLong` if there are more than 16,777,216 bytes; `Memory`.
+/// Reads the reader to its end, at most 1,000,000 times. Errors, each as it occurs: `Read` if the reader fails, or doesn't end within
+/// 1,000,000 reads; `TooLong` if there are more than 16,777,216 bytes; `Memory`.
 pub fn read_script<S: Source>(alloc: Global, reader: &mut S) -> Result<Vec<u8>, ScriptFault>
     requires { S.failed reader.old ≡ false }
     ensures whole { IfOk result (λ script.
@@ -67,14 +68,8 @@ pub fn read_script<S: Source>(alloc: Global, reader: &mut S) -> Result<Vec<u8>, 
     ensures works { OnOk result (S.failed reader.new ≡ false) }
     ensures limit { IfOk result (λ script. vec_len script ≤ 16777216) }
     ensures fault { IfErr result (λ fault. fault ≢ ScriptFault.Write) }
-    ensures read { IsErrOf result ScriptFault.Read → (S.failed reader.new ≡ true)
-        ⊎ ((S.ended reader.new ≡ false)
-        × HasGiven (S.left reader.old) (S.left reader.new) 1000000) }
-    ensures fails { S.failed reader.new ≡ true → IsErrOf result ScriptFault.Read }
-    ensures too_long { IsErrOf result ScriptFault.TooLong
-        → HasGiven (S.left reader.old) (S.left reader.new) (16777216 + 1) }
-    ensures few { (IsErrOf result ScriptFault.TooLong → ⊥)
-        → HasGivenUpTo (S.left reader.old) (S.left reader.new) 16777216 }
+    ensures reader { HasReadScript (S.left reader.old) (S.left reader.new) (S.ended reader.new)
+        (S.failed reader.new) result }
     ensures reads { S.reads_left reader.old ≤ S.reads_left reader.new + 1000000 }
 {
     let mut script = Vec::new(alloc);

@@ -1,7 +1,7 @@
 //! Reads a whole script, and then runs it.
 ghost use Rattle.std.specs.Prelude.{◌≡◌, ◌≤◌, ◌+◌, ◌⊎◌, ◌↔◌, true, false, IfOk, OnOk, IsErrOf};
-ghost use Rattle.ami_text.specs.Devices.{HasEnded, HasGiven, HasGivenUpTo};
-ghost use Rattle.scripts.specs.Script.{IsRunInPart, IsRunInWholeLines, IsScriptRun};
+ghost use Rattle.ami_text.specs.Devices.{HasEnded};
+ghost use Rattle.scripts.specs.Script.{HasReadScript, IsRunInPart, IsRunInWholeLines, IsScriptRun};
 ghost use Rattle.scripts.specs.LineSteps.{listed_place};
 
 use crate::devices::read_script;
@@ -16,8 +16,8 @@ use std::alloc::Global;
 /// at most 1,000,000 times, runs the lines in order, and writes the output of each. Returns how many lines were not understood;
 /// each of them gives `line N: not understood`, where N counts all lines from 1.
 ///
-/// Errors: `Read` if the reader fails or has no end within 1,000,000 reads, `TooLong` if the script has more than 16,777,216
-/// bytes, `Write` if the writer fails or takes no bytes, `Memory`. After the first two nothing was written, after `Write` a
+/// Errors, each as it occurs: `Read` if the reader fails or has no end within 1,000,000 reads, `TooLong` if the script has more than
+/// 16,777,216 bytes, `Write` if the writer fails or takes no bytes, `Memory`. After the first two nothing was written, after `Write` a
 /// prefix of the script's text, and after `Memory` nothing, or the whole output of its first lines.
 pub fn run_script<S: Source, W: Sink>(
     alloc: Global,
@@ -42,14 +42,8 @@ pub fn run_script<S: Source, W: Sink>(
         (W.taken writer.old) (W.taken writer.new) unknown) }
 
     // Each of these faults is returned only where its cause applies; if a device has failed, its fault is returned.
-    ensures read { IsErrOf result ScriptFault.Read → (S.failed reader.new ≡ true)
-        ⊎ ((S.ended reader.new ≡ false)
-        × HasGiven (S.left reader.old) (S.left reader.new) 1000000) }
-    ensures fails { S.failed reader.new ≡ true → IsErrOf result ScriptFault.Read }
-    ensures length { IsErrOf result ScriptFault.TooLong
-        → HasGiven (S.left reader.old) (S.left reader.new) (16777216 + 1) }
-    ensures few { (IsErrOf result ScriptFault.TooLong → ⊥)
-        → HasGivenUpTo (S.left reader.old) (S.left reader.new) 16777216 }
+    ensures reader { HasReadScript (S.left reader.old) (S.left reader.new) (S.ended reader.new)
+        (S.failed reader.new) result }
     ensures write { IsErrOf result ScriptFault.Write ↔ (W.failed writer.new ≡ true) }
 
     // After `Read` and `TooLong` nothing was written.

@@ -50,7 +50,7 @@ pub struct Output {
     understood: bool,
 }
 
-// The line of a frame that is shown.
+// The line of a frame that is shown. Fails only when out of memory.
 fn shown(alloc: Global, frame: &Frame) -> Result<Vec<u8>, Memory>
     ensures { IsInRanges frame.now → IfOk result (λ text. (bytes : List ℕ)
         × SpellsIn VERSION frame.now bytes × (text.items ≡ frame_text bytes)) }
@@ -69,7 +69,8 @@ fn count_of(calls: Calls, queue: QueueName) -> Ask
     })
 }
 
-// The output of an offer of a site's replica.
+// The output of an offer of a site's replica; a first part that is no queue's name counts as a queue that isn't there. Fails only when out
+// of memory.
 fn offer_of(alloc: Global, replica: &Replica, parts: &[u8]) -> Result<Vec<u8>, Memory>
     ensures { IfOk result (λ text. (s : SiteKnowledge) → StandsFor replica.now s → text.items
         ≡ text_of_offer replica.now.names (Some s) (queue_in parts.now) (tried_in parts.now)) }
@@ -84,7 +85,7 @@ fn offer_of(alloc: Global, replica: &Replica, parts: &[u8]) -> Result<Vec<u8>, M
     }
 }
 
-// The reply to a message that waits for the outcome of its ask; `None` if there is no such site.
+// The reply to a message that waits for the outcome of its ask; no bytes if there is no such site. Fails only when out of memory.
 fn reply(alloc: Global, pending: Pending, outcome: Outcome) -> Result<Vec<u8>, Memory>
     ensures { IfOk result (λ text. text.items ≡ waited_reply pending outcome) }
 {
@@ -94,7 +95,7 @@ fn reply(alloc: Global, pending: Pending, outcome: Outcome) -> Result<Vec<u8>, M
     }
 }
 
-// The output of a line that isn't understood.
+// The output of a line that isn't understood. Fails only when out of memory.
 fn not_understood(alloc: Global, number: u64) -> Result<Output, Memory>
     ensures { IfOk result (λ output. IsUnknown number output) }
 {
@@ -121,7 +122,7 @@ impl Script {
         }
     }
 
-    // Runs an event. Out of memory is no outcome, but the only fault.
+    // Runs an event, and returns its outcome, which isn't `NoMemory`. Fails only when out of memory, and then the event has no effect.
     fn happen(&mut self, event: Event) -> Result<Outcome, Memory>
         ensures ok { IfOk result (λ outcome. (w : world_of_operations)
             → StandsAt self.old.world w
@@ -135,7 +136,7 @@ impl Script {
         }
     }
 
-    // The output of an event. Fails only when out of memory.
+    // Runs an event, and returns its output. Fails only when out of memory; the event may then have had its effect.
     fn run_event(&mut self, event: Event) -> Result<Vec<u8>, Memory>
         ensures ok { IfOk result (λ text. (w : world_of_operations) → StandsAt self.old.world w
             → StandsForGiven (given_by_event (place_of self.old) w event) self.new.world text.items) }
@@ -145,7 +146,7 @@ impl Script {
         outcome_text(self.alloc, outcome)
     }
 
-    // The output of a call that is to be counted. Fails only when out of memory.
+    // Counts a call, and returns the output; a name of no queue counts nothing. Fails only when out of memory.
     fn run_count(&mut self, site: SiteId, calls: Calls, queue: &[u8]) -> Result<Vec<u8>, Memory>
         ensures ok { IfOk result (λ text. (w : world_of_operations) → StandsAt self.old.world w
             → StandsForGiven (given_by_count (place_of self.old) w site calls (name_of queue.now))
@@ -158,7 +159,7 @@ impl Script {
         }
     }
 
-    // The output of an offer. Fails only when out of memory.
+    // The output of an offer, which changes nothing; no bytes if there is no such site. Fails only when out of memory.
     fn run_offer(&self, site: SiteId, parts: &[u8]) -> Result<Vec<u8>, Memory>
         ensures { IfOk result (λ text. (w : world_of_operations) → StandsAt self.now.world w
             → text.items ≡ text_of_offer self.now.world.names (slice_get w.sites site)
@@ -170,7 +171,8 @@ impl Script {
         }
     }
 
-    // The output of a session's reaction. Fails only when out of memory.
+    // Asks the site what a session's reaction asks, if it does, and returns the output. Fails only when out of memory; the site may then
+    // have done what was asked.
     fn run_act(&mut self, site: SiteId, act: Act) -> Result<Vec<u8>, Memory>
         ensures ok { IfOk result (λ text. (w : world_of_operations) → StandsAt self.old.world w
             → StandsForGiven (given_by_reaction (place_of self.old) w site (reaction_of act))
@@ -186,7 +188,7 @@ impl Script {
         }
     }
 
-    // A site's reply to a message, in a trusted session of its own. Fails only when out of memory.
+    // Runs a message in a trusted session of its own, and returns the site's reply. Fails only when out of memory.
     fn run_message(&mut self, site: SiteId, message: &Message) -> Result<Vec<u8>, Memory>
         ensures ok { IfOk result (λ text. (w : world_of_operations) → StandsAt self.old.world w
             → StandsForGiven (given_by_message (place_of self.old) w site message.now)
@@ -198,7 +200,8 @@ impl Script {
         self.run_act(site, act)
     }
 
-    // Runs the line of this number with a message for a site, if its fields are exactly one message.
+    // Runs the line of this number with a message for a site, and returns its output. Unless its fields are exactly one message the line
+    // isn't understood. Fails only when out of memory.
     fn run_fields(&mut self, site: SiteId, fields: &[u8], number: u64) -> Result<Output, Memory>
         ensures ok { IfOk result (λ output. (w : world_of_operations)
             → StandsAt self.old.world w → IsOutput (place_of self.old) w number
@@ -215,7 +218,7 @@ impl Script {
         })
     }
 
-    // The output for an entry that is shown. Fails only when out of memory.
+    // The output for an entry that is shown: its frame, or that it isn't there. Fails only when out of memory.
     fn show(&self, entry: usize) -> Result<Vec<u8>, Memory>
         ensures { IfOk result (λ text. (w : world_of_operations) → StandsAt self.now.world w
             → IsEntryShown entry (slice_get w.pool entry) text.items) }
@@ -226,7 +229,7 @@ impl Script {
         }
     }
 
-    // Runs the line of this number. Fails only when out of memory.
+    // Runs the line of this number, and returns its output. Fails only when out of memory; the line may then have had its effect.
     fn run_line(&mut self, line: &[u8], number: u64) -> Result<Output, Memory>
         ensures ok { IfOk result (λ output. (w : world_of_operations)
             → StandsAt self.old.world w → IsOutput (place_of self.old) w number
@@ -250,7 +253,8 @@ impl Script {
         })
     }
 
-    // Runs the line of this number and writes its output. Returns whether the line was understood.
+    // Runs the line of this number and writes its output. Returns whether the line was understood. Errors, in order: `Memory`, and nothing
+    // was written, though the line may have had its effect; `Write`, after a prefix of the output.
     fn give_line<W: Sink>(
         &mut self,
         writer: &mut W,
@@ -277,8 +281,9 @@ impl Script {
         Ok(output.understood)
     }
 
-    // Runs the lines of a script and writes the output of each. Returns how many were not understood. A line that runs out of
-    // memory writes nothing.
+    // Runs the lines of a script in order, numbered from 1, and writes the output of each. Returns how many were not understood. An error
+    // ends it, and no further line is run. Errors, at the first line with one: `Memory`, and nothing was written of the line; `Write`,
+    // after a prefix of its output.
     pub(crate) fn run_lines<W: Sink>(
         &mut self,
         writer: &mut W,

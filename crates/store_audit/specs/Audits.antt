@@ -52,12 +52,12 @@ pub record IsStuckThere (stores : List StoreJournal) (site position : ℕ) (befo
   pub stuck : IsStuck (journals_of sorted) site place events
   pub written : IsWritten sorted events before after
 
--- the end of an audit of stores
+-- the events of stores were written: they explain all stores, or are stuck at a step
 abbrev pub IsEndOf : List StoreJournal → Option (List ℕ) → Option (List ℕ) → AuditEnd → Type 0
 IsEndOf stores before after (Explained unsaid) = IsExplained stores unsaid before after
 IsEndOf stores before after (Stuck site position words) = IsStuckThere stores site position before after
 
--- the end of an audit of stores in the order of their sites
+-- the events of stores in the order of their sites were written: they explain all, or are stuck at a step
 abbrev pub IsEndSorted : List StoreJournal → Option (List ℕ) → Option (List ℕ) → AuditEnd → Type 0
 IsEndSorted sorted before after end = (stores : List StoreJournal) → AreInOrder stores sorted → IsEndOf stores before after end
 
@@ -117,7 +117,7 @@ pub record WritesStuck (parts : Parts) (heading : List ℕ) (site position : ℕ
   pub limits : All HasLimits events
   pub taken : Appends before after (heading ++ script_of events)
 
--- the end of an audit of journals
+-- a heading and the events of journals were written: they are one run, or are stuck at a step
 abbrev pub EndsAs : Parts → List ℕ → Option (List ℕ) → Option (List ℕ) → AuditEnd → Type 0
 EndsAs parts heading before after (Explained unsaid) = WritesRun parts heading unsaid before after
 EndsAs parts heading before after (Stuck site position words) = WritesStuck parts heading site position before after

@@ -77,7 +77,7 @@ IsOrderCause sorted Memory = ⊥
 abbrev pub AreFresh : List JournalState → Type 0
 AreFresh journals = (site : ℕ) (j : JournalState) → slice_get journals site ≡ Some j → ∥ IsFromNew j ∥₁
 
--- stores were taken apart
+-- the journals of stores, and the positions of their rows, in the order of the stores
 pub record AreParts (stores : List StoreJournal) (parts : Parts) : Type 0 where
   pub journals : parts.journals.items ≡ journals_of stores
   pub positions : map (λ p. p.items) parts.positions.items ≡ map (λ store. store.positions.items) stores

@@ -25,7 +25,8 @@ use site_journal::{Journaled, Step};
 use std::alloc::Global;
 use stored_steps::row_of_step;
 
-// The events that explain journals, as far as there are some.
+// The events that explain journals, as far as there are some. The journals are those of the sites 0, 1, .. with one list of queues, and
+// have all steps, so that `explain` has no other fault than `Memory`.
 fn explain_fresh(alloc: Global, journals: &[Journaled]) -> Result<Explanation, Memory>
     requires sites { AreSites journals.now }
     requires fresh { AreFresh journals.now }
@@ -53,7 +54,8 @@ fn script_fault(fault: EventsFault) -> StoreAuditFault
     }
 }
 
-// Writes a heading and the script of events. Returns how many events no line says.
+// Writes a heading and the script of events. Returns how many events no line says. Errors: `Write`, `Memory`; a prefix of heading and
+// script was then written.
 #[tactic(auto, using(crate::proofs::Ending::begun_first, crate::proofs::Ending::begun_then))]
 fn write_script<W: Sink>(
     alloc: Global,
@@ -82,7 +84,7 @@ fn write_script<W: Sink>(
     }
 }
 
-// A step in the words that a row of it has; no words if it has no row.
+// A step in the words that a row of it has; no words if it has no row. It fails only when out of memory.
 fn words_of(alloc: Global, step: &Step) -> Result<String, Memory> {
     match row_of_step(alloc, step)? {
         Some(row) => {
@@ -94,14 +96,14 @@ fn words_of(alloc: Global, step: &Step) -> Result<String, Memory> {
     }
 }
 
-// The step at this place of a site's journal, in words.
+// The step at this place of a site's journal, where there is one, in words. It fails only when out of memory.
 fn words_at(alloc: Global, parts: &Parts, site: usize, place: usize) -> Result<String, Memory>
     requires { IsStepOf parts.now site place }
 {
     words_of(alloc, &parts.journals[site].steps()[place])
 }
 
-// The position of the row of the step at this place of a site's journal.
+// The position of the row of the step at this place of a site's journal, where there is one. Each step has its row's position.
 fn position_at(parts: &Parts, site: usize, place: usize) -> u64
     requires counted { AreCounted parts.now }
     requires step { IsStepOf parts.now site place }
@@ -110,7 +112,7 @@ fn position_at(parts: &Parts, site: usize, place: usize) -> u64
     parts.positions[site][place]
 }
 
-// The end of an audit whose events are stuck at this place of a site's journal.
+// The end of an audit whose events are stuck at this place of a site's journal, where there is a step. It fails only when out of memory.
 fn stuck_at(alloc: Global, parts: &Parts, site: u16, place: u64) -> Result<AuditEnd, Memory>
     requires counted { AreCounted parts.now }
     requires step { IsStepOf parts.now site place }
@@ -124,7 +126,8 @@ fn stuck_at(alloc: Global, parts: &Parts, site: u16, place: u64) -> Result<Audit
     })
 }
 
-// The end of an audit, by the place where its events are stuck, if they are.
+// The end of an audit, by the place where its events are stuck, if they are; there is a step then. It fails only when out of memory, and
+// only if they are stuck.
 fn end_of(
     alloc: Global,
     parts: &Parts,
@@ -143,7 +146,8 @@ fn end_of(
     }
 }
 
-// Writes a heading and the events that explain the journals of stores.
+// Writes a heading and the events that explain the journals of stores: those of the sites 0, 1, .. with one list of queues and all
+// steps. Errors, each as it occurs: `Memory`, and nothing or a prefix was written; `Write`, and a prefix was.
 fn write_parts<W: Sink>(
     alloc: Global,
     out: &mut W,
@@ -168,7 +172,7 @@ fn write_parts<W: Sink>(
     Ok(end)
 }
 
-// The audit of stores in the order of their sites.
+// The audit of stores that are in the order of their sites. Errors are those of `audit_stores`, in its order.
 fn audit_sorted<W: Sink>(
     alloc: Global,
     out: &mut W,

@@ -36,7 +36,7 @@ pub(crate) fn sort(stores: &mut Vec<StoreJournal>)
     stores.sort_unstable_by_key(|store| site_of(store));
 }
 
-// The least site that two stores are of, if there is one.
+// The least site that two stores are of. `None`: each is of another site. The stores stand in the order of their sites.
 fn doubled(stores: &[StoreJournal]) -> Option<u16>
     requires { IsNonDecreasingBy site_number stores.now }
     ensures found { IfSome result (λ site. AreTwice stores.now site) }
@@ -55,7 +55,8 @@ fn doubled(stores: &[StoreJournal]) -> Option<u16>
     None
 }
 
-// The least site that no store is of, if a store is of a greater one.
+// The least site that no store is of, if a store is of a greater one. `None`: they are of the sites 0, 1, .. Each store is of a greater
+// site than the one before it.
 fn missing(stores: &[StoreJournal]) -> Option<u16>
     requires { AreRising stores.now }
     ensures found { IfSome result (λ site. HasGap stores.now site) }
@@ -72,7 +73,8 @@ fn missing(stores: &[StoreJournal]) -> Option<u16>
     None
 }
 
-// The least site whose store has other queues than the first, if there is one.
+// The least site whose store has other queues than the first. `None`: all have the same. The stores are those of the sites 0, 1, .., at
+// most 64.
 fn other_queues(stores: &[StoreJournal]) -> Option<u16>
     requires numbered { AreNumbered stores.now (length stores.now) }
     requires few { length stores.now ≤ SITES }
@@ -91,7 +93,8 @@ fn other_queues(stores: &[StoreJournal]) -> Option<u16>
     None
 }
 
-// Checks that stores in the order of their sites are those of the sites 0, 1, .. with one list of queues.
+// Checks that stores in the order of their sites are those of the sites 0, 1, .. with one list of queues. Errors, in order, each with the
+// least site that has it: `Doubled`, `Missing`, `OtherQueues`.
 #[tactic(auto, using(crate::proofs::Sorted::all_sites))]
 pub(crate) fn check(stores: &[StoreJournal]) -> Result<(), StoreAuditFault>
     requires { IsNonDecreasingBy site_number stores.now }

@@ -1,4 +1,5 @@
-//! The comments before the script of an audit: its sites, queues and stores.
+//! The comments before the script of an audit: its sites, queues and stores. Each function fails only when out of memory; one that appends
+//! then leaves a part of its text.
 ghost use Rattle.std.specs.Prelude.{◌≡◌, ◌++◌, ◌∷◌, ℕ, [], List, IfOk, OnOk, Some, false, map};
 ghost use Rattle.std.specs.Prelude.{slice_get};
 ghost use Rattle.std.specs.List.{list_any};
@@ -42,7 +43,7 @@ fn push_queue(out: &mut Vec<u8>, name: &QueueName) -> Result<(), Memory>
     Ok(())
 }
 
-// Appends the line of the queue at this place.
+// Appends the line of the queue at this place; nothing if there is none.
 fn push_queue_at(out: &mut Vec<u8>, list: &QueueList, place: u16) -> Result<(), Memory>
     ensures line { (name : List ℕ) → slice_get list.now place ≡ Some name → OnOk result
         (out.new.items ≡ out.old.items ++ (queue_line name ++ 10 ∷ [])) }
@@ -118,7 +119,7 @@ fn push_stores(alloc: Global, out: &mut Vec<u8>, stores: &[StoreJournal]) -> Res
     Ok(())
 }
 
-// Appends the lines of the queues of the first store.
+// Appends the lines of the queues of the first store; nothing without a store.
 fn push_first_queues(out: &mut Vec<u8>, stores: &[StoreJournal]) -> Result<(), Memory>
     ensures lines { OnOk result (out.new.items
         ≡ out.old.items ++ lines_text (map queue_line (names_in (journals_of stores.now)))) }

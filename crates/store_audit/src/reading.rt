@@ -65,7 +65,8 @@ fn base_fault(fault: BaseFault) -> JournalFault
     }
 }
 
-// The base that the first row says, of whatever site.
+// The base that the first row says, of whatever site. Errors, in order: `Base`, with the fault of `base_heading`, then that of
+// `base_of_row`; `Memory` in place of theirs.
 fn first_base(alloc: Global, row: &StoredRow) -> Result<StoredBase, JournalFault>
     ensures read { IfOk result (λ base. IsReadBase row.now base) }
     ensures fault { IfErr result (λ fault. IsBaseCause row.now fault) }
@@ -82,7 +83,7 @@ fn first_base(alloc: Global, row: &StoredRow) -> Result<StoredBase, JournalFault
     }
 }
 
-// A journal of a replica, without a step.
+// A journal of a replica, without a step. It fails only when out of memory, and drops the replica.
 fn new_journal(alloc: Global, replica: Replica) -> Result<Journaled, Memory>
     ensures { IfOk result (λ journal. IsNewJournal replica MOST_STEPS journal) }
 {
@@ -95,7 +96,8 @@ fn new_journal(alloc: Global, replica: Replica) -> Result<Journaled, Memory>
     }
 }
 
-// The walk that begins with the first row, which has this position.
+// The walk that begins with the first row, which has this position. Errors, in order: those of `first_base`; `NotFromStart`, if the
+// position isn't 0 or the site isn't new; `Memory`.
 fn begin(alloc: Global, first: u64, row: &StoredRow) -> Result<Walk, JournalFault>
     ensures begun { IfOk result (λ walk. BeginsWalk row.now walk) }
     ensures first { OnOk result (first ≡ 0) }
@@ -123,7 +125,7 @@ fn begin(alloc: Global, first: u64, row: &StoredRow) -> Result<Walk, JournalFaul
     })
 }
 
-// Whether a base says what the site of a walk is, with the name of its store and as many starts.
+// Whether a base says what the site of a walk is, with the name of its store and the number of its starts.
 fn is_said(base: &StoredBase, walk: &Walk) -> bool
     ensures { IsTrue result ↔ SaysWalk walk.now base.now }
 {
@@ -143,7 +145,8 @@ fn kept_fault(position: u64, fault: BaseFault) -> JournalFault
     }
 }
 
-// Checks that a base behind the first row, which has this position, says what the site is there.
+// Checks that a base behind the first row, which has this position, says what the site is there. Errors: `Damaged`, if it can't be read or
+// says something else; `Memory`.
 fn check_base(
     alloc: Global,
     walk: &Walk,
@@ -167,7 +170,7 @@ fn check_base(
     }
 }
 
-// The step that the row of this position stands for.
+// The step that the row of this position stands for. Errors: `Row`, with the fault of `step_of_row`; `Memory`.
 fn step_at(alloc: Global, position: u64, row: &StoredRow) -> Result<Step, JournalFault>
     ensures row { IfOk result (λ step. row_of step ≡ Some row.now) }
     ensures within { IfOk result (λ step. IsWithinLimits step) }
@@ -180,7 +183,8 @@ fn step_at(alloc: Global, position: u64, row: &StoredRow) -> Result<Step, Journa
     }
 }
 
-// Does the step of the row of this position again.
+// Does the step of the row of this position again. Errors, in order: `TooMany`, if the journal is full; `Damaged`, if the site refuses the
+// step or gives another answer or other bytes; `Memory`. After an error the walk ends: the journal may have another step.
 fn replay_at(journal: &mut Journaled, position: u64, step: &Step) -> Result<(), JournalFault>
     ensures added { OnOk result (HasAdded journal.old step.now journal.new) }
     ensures room { OnOk result (IsFull journal.old → ⊥) }
@@ -194,7 +198,8 @@ fn replay_at(journal: &mut Journaled, position: u64, step: &Step) -> Result<(), 
     }
 }
 
-// Does the step again for which the row of this position stands.
+// Does the step again for which the row of this position stands, which is no start, and notes the position. After an error the walk ends:
+// the journal may have a step without a position. Errors, in order: those of `step_at`; those of `replay_at`; `Memory`.
 fn add_step(
     alloc: Global,
     walk: &mut Walk,
@@ -216,7 +221,8 @@ fn add_step(
     }
 }
 
-// Does again what the row of this position says.
+// Does again what the row of this position says: checks a base, counts a start, or does a step. Errors are those of `check_base` or
+// `add_step`; a start has none, and counts no further than 2^64 - 1.
 fn walk_row(
     alloc: Global,
     walk: &mut Walk,
@@ -240,7 +246,7 @@ fn walk_row(
     add_step(alloc, walk, position, row)
 }
 
-// Does again what the rows behind the first say.
+// Does again what the rows behind the first say, from position 1 on. The first error of a row ends it.
 fn walk_rows(alloc: Global, walk: &mut Walk, rows: &[StoredRow]) -> Result<(), JournalFault>
     ensures walked { (base : StoredBase) → HasWalked base [] walk.old
         → OnOk result (HasWalked base rows.now walk.new) }
@@ -260,9 +266,9 @@ fn walk_rows(alloc: Global, walk: &mut Walk, rows: &[StoredRow]) -> Result<(), J
 ///
 /// Errors, in order: `Base`, with the fault of `base_heading` or `base_of_row`, also where there is no row; `NotFromStart`, if `first`
 /// isn't 0 or the base isn't that of a new site. Then, of the first row that has one: `Row`, with the position and the fault of
-/// `step_of_row`; `TooMany`, if 1,000,000 steps were done before; `Damaged`, with the position, if the site refuses the step, gives
-/// another answer or other bytes, or a base doesn't say what the site is. `Memory` may stand in place of a `Base` that those two may so
-/// replace, of `NotFromStart`, `TooMany` and `Damaged`.
+/// `step_of_row`; `TooMany`, if 1,000,000 steps were done before; `Damaged`, with the position, if the site refuses the step, gives another
+/// answer or other bytes, or a base doesn't say what the site is. `Memory`, if an allocation was refused, may stand in place of each, but
+/// not where there is no row.
 pub fn journal_of_rows(
     alloc: Global,
     first: u64,

@@ -22,7 +22,7 @@ fn parts_of(store: StoreJournal) -> (Journaled, Vec<u64>)
     (store.journal, store.positions)
 }
 
-// Adds an item at the end of a list.
+// Adds an item at the end of a list. It fails only when out of memory, and drops the item.
 fn push<T: Drop>(list: &mut Vec<T>, item: T) -> Result<(), Memory>
     ensures { OnOk result (list.new.items ≡ list.old.items ++ item ∷ []) }
 {
@@ -46,7 +46,7 @@ fn add(parts: &mut Parts, journal: Journaled, positions: Vec<u64>) -> Result<(),
     push(&mut parts.positions, positions)
 }
 
-// Takes stores apart.
+// Takes stores apart into their journals and positions, in order. It fails only when out of memory.
 pub(crate) fn split(alloc: Global, stores: Vec<StoreJournal>) -> Result<Parts, Memory>
     ensures { IfOk result (λ parts. AreParts stores.items parts) }
 {

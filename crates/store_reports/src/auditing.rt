@@ -12,7 +12,7 @@ use ami_text::Sink;
 use std::rt::Files;
 use store_audit::{AuditEnd, StoreAuditFault, audit_stores};
 
-// Why the events of stores were not written to their end, as the fault of a report.
+// Why the events of stores were not written to their end, as the fault of a report: `Write`, `Memory`, or `Sites` with any other.
 fn sites_fault(fault: StoreAuditFault) -> ReportFault
     ensures fault { (files : ℕ) (stores : List StoreJournal) (before after : Option (List ℕ))
         → length stores ≡ files → All IsOfFile stores → IsAuditCause stores before after fault
@@ -29,9 +29,9 @@ fn sites_fault(fault: StoreAuditFault) -> ReportFault
 /// Writes the events that explain the stores in the files at these paths, as `audit_stores` of `store_audit` does. The stores are those of
 /// all sites of one run, in any order. One file after the other is read; no file and no log is changed.
 ///
-/// Errors, in order: of the first file with one `File`, with its index and `Unreadable`, if the file or its log can't be read, with
-/// `Copy` and the fault of `rows_of_bytes`, or with `Journal` and the fault of `journal_of_rows`; `Sites`, with the fault of
-/// `audit_stores`. These write nothing. Then `Write`, and a prefix of the text was written. `Memory` may stand in place of each, and then
+/// Errors, in order: `File`, with the index of the first file at fault and the cause: `Unreadable`, if the file or its log can't be read;
+/// `Copy`, with the fault of `rows_of_bytes`; `Journal`, with the fault of `journal_of_rows`. Then `Sites`, with the fault of
+/// `audit_stores`. Up to here nothing was written. `Write`: a prefix of the text was written. `Memory` may stand in place of each, and then
 /// nothing was written, or a prefix of the text.
 pub fn audit_files<R: Files + AllocGlobal, W: Sink>(
     rt: &R,

@@ -12,7 +12,7 @@ use std::rt::Files;
 use store_copy::CopyFault;
 use store_listing::{ListingFault, write_steps};
 
-// Why a list of steps was not written to its end, as the fault of a report.
+// Why a list of steps was not written to its end, as the fault of a report: `Memory`, `Write`, or `File` of index 0 with any other.
 fn listing_fault(fault: ListingFault) -> ReportFault
     ensures fault { (with_frames : Bool) (before after : Option (List ℕ)) (first : ℕ)
         (rows : List Stored) → AreOfFile first rows
@@ -29,10 +29,10 @@ fn listing_fault(fault: ListingFault) -> ReportFault
 
 /// Writes the rows of the store at a path in words, as `write_steps` of `store_listing` does. Neither the file nor its log is changed.
 ///
-/// Errors, in order: `File` with the index 0 and `Unreadable`, if the file or its log can't be read; with `Copy` and the fault of
-/// `rows_of_bytes`, or `Gap` where a position would pass 2^64 - 1; these write nothing. Then, at the first row with one, `File` with
-/// `Listing` and the fault of `write_steps`; `Write`. `Memory` may stand in place of each, and then nothing was written, or the text of the
-/// rows before one.
+/// Errors, in order: `File`, with the index 0 and the cause: `Unreadable`, if the file or its log can't be read; `Copy`, with the fault of
+/// `rows_of_bytes`, or with `Gap` if the position after the last row would be above 2^64 - 1. Up to here nothing was written. Then, at the
+/// first row with one: `File`, with `Listing` and the fault of `write_steps`; `Write`, after a prefix of the row's text. The text of the
+/// rows before it was written. `Memory` may stand in place of each, and then nothing was written, or the text of the rows before one.
 pub fn list_steps<R: Files + AllocGlobal, W: Sink>(
     rt: &R,
     out: &mut W,

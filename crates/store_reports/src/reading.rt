@@ -12,7 +12,7 @@ use std::rt::Files;
 use store_audit::{JournalFault, StoreJournal, journal_of_rows};
 use store_copy::{CopyFault, Listed, read_bytes, rows_of_bytes};
 
-// Why the file of this index can't be read, as the fault of a report.
+// Why the file of this index can't be read, as the fault of a report: `Memory`, or `File` with `Unreadable`.
 fn unreadable(file: usize, error: io::Error) -> ReportFault
     ensures { IsReadFault file result }
 {
@@ -22,7 +22,7 @@ fn unreadable(file: usize, error: io::Error) -> ReportFault
     }
 }
 
-// Why the bytes of the file of this index give no rows, as the fault of a report.
+// Why the bytes of the file of this index give no rows, as the fault of a report: `Memory`, or `File` with `Copy`.
 fn copy_fault(file: usize, fault: CopyFault) -> ReportFault
     ensures { IsReadFault file result }
 {
@@ -32,7 +32,7 @@ fn copy_fault(file: usize, fault: CopyFault) -> ReportFault
     }
 }
 
-// Why the rows of the file of this index give no journal, as the fault of a report.
+// Why the rows of the file of this index give no journal, as the fault of a report: `Memory`, or `File` with `Journal`.
 fn journal_fault(file: usize, fault: JournalFault) -> ReportFault
     ensures { (first : ℕ) (rows : List Stored) → AreOfFile first rows
         → IsJournalCause first rows fault → IsFileFault file result }
@@ -43,7 +43,8 @@ fn journal_fault(file: usize, fault: JournalFault) -> ReportFault
     }
 }
 
-// The rows of the store at a path, the file of this index. The bytes of the file are dropped.
+// The rows of the store at a path, the file of this index. The bytes of the file are dropped. Errors, in order: `File`, with `Unreadable`,
+// then with `Copy`; `Memory` in place of each.
 pub(crate) fn rows_of_file<R: Files + AllocGlobal>(
     rt: &R,
     file: usize,
@@ -64,7 +65,8 @@ pub(crate) fn rows_of_file<R: Files + AllocGlobal>(
     }
 }
 
-// The journal of the store at a path, the file of this index. Its rows are dropped.
+// The journal of the store at a path, the file of this index. Its rows are dropped. Errors, in order: those of `rows_of_file`; `File` with
+// `Journal`; `Memory` in place of each.
 fn journal_of_file<R: Files + AllocGlobal>(
     rt: &R,
     file: usize,
@@ -82,7 +84,7 @@ fn journal_of_file<R: Files + AllocGlobal>(
     }
 }
 
-// Appends a store.
+// Appends a store. Each store is of a file, as `IsOfFile` says. It fails only when out of memory, and drops the store.
 fn push_store(stores: &mut Vec<StoreJournal>, store: StoreJournal) -> Result<(), Memory>
     requires each { All IsOfFile stores.old.items }
     requires store { IsOfFile store }
@@ -93,7 +95,8 @@ fn push_store(stores: &mut Vec<StoreJournal>, store: StoreJournal) -> Result<(),
     Ok(())
 }
 
-// The journals of the stores at these paths, in their order.
+// The journals of the stores at these paths, in their order; one file after the other is read. The first error of a file ends it, as does
+// `Memory`.
 pub(crate) fn journals_of_files<R: Files + AllocGlobal>(
     rt: &R,
     paths: &[String],
