@@ -4,10 +4,10 @@ ghost use Rattle.site_journal.specs.Journals.{IsOfSite};
 
 use crate::shared::{replica, status};
 use dots::SiteId;
-use pass_desk::{Ear, PassDesk, RingingDesk, SiteBell};
+use pass_desk::{Ear, PassDesk, RingingDesk};
 use replica::Refusal;
 use serve::{Desk, DeskDown};
-use site_desk::{Pass, SiteDesk, SiteLedger, close};
+use site_desk::{Pass, SiteBell, SiteDesk, SiteLedger, close};
 use site_journal::{Bell, Journaled};
 use status_report::{Answer, Ask};
 use std::alloc::Global;

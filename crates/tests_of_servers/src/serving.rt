@@ -2,11 +2,8 @@
 use crate::shared::{list, text};
 use ami_text::MemorySink;
 use event_log::EventLog;
-use server::{
-    LAST_PORT, MOST_PLACES, MOST_SERVED_SITES, ServeSitesFault, ServerSettings, SessionSettings,
-    serve_sites,
-};
-use site_journal::Journaled;
+use server::{ServeSitesFault, ServerSettings, SessionSettings, SiteOutput, serve_sites};
+use serving_clients::PlaceCount;
 use std::alloc::Global;
 use std::net::{IpAddr, Ipv4Addr, Net, SocketAddr, TcpListener, TcpStream};
 use std::process::Abort;
@@ -81,6 +78,7 @@ pub fn settings(
     limit: Limit,
 ) -> ServerSettings {
     let mut session = SessionSettings::new(text(rt, "admin"), text(rt, "s3"));
+    session.places = PlaceCount::new(2).expect(rt, "a number of places");
     let short = Duration::from_millis(SHORT);
     match limit {
         Limit::Usual => {}
@@ -90,12 +88,9 @@ pub fn settings(
         }
         Limit::Idle => session.idle = Some(short),
     }
-    ServerSettings {
-        sites,
-        places: 2,
-        address: IpAddr::V4(address),
-        port,
-        session,
+    match ServerSettings::new(sites, IpAddr::V4(address), port, session) {
+        Ok(settings) => settings,
+        Err(_) => rt.panic("settings"),
     }
 }
 
@@ -105,22 +100,18 @@ pub fn events(rt: &impl Abort, alloc: Global) -> Arc<EventLog, Global> {
     Arc::new(alloc, events).expect(rt, "memory")
 }
 
-/// Serves a number of sessions of each site, over a log that fails after a number of writes. Returns how that ends, and what the
-/// log has taken.
+/// Serves a number of sessions of each site, over a log that fails after a number of writes. Returns how that ends, and what the log has
+/// taken.
 pub fn served<R>(
     rt: &R,
     alloc: Global,
     settings: &ServerSettings,
     sessions: u32,
     writes: u64,
-) -> (Result<Vec<Journaled>, ServeSitesFault>, MemorySink)
+) -> (Result<Vec<SiteOutput<()>>, ServeSitesFault>, MemorySink)
 where
     R: Net<Listener = TcpListener, Stream = TcpStream> + Abort + Threads + Wait + Clock + Sync,
 {
-    let (sites, port) = (settings.sites, settings.port);
-    assert!(*rt; 0 < sites && sites <= MOST_SERVED_SITES);
-    assert!(*rt; 0 < port && port <= LAST_PORT);
-    assert!(*rt; 0 < settings.places && settings.places <= MOST_PLACES);
     let mut log = MemorySink::failing(alloc, 700, writes);
     let list = list(rt, alloc, &["sales"]);
     let events = events(rt, alloc);

@@ -3,8 +3,9 @@ use crate::feeds::{feed_all, next};
 use crate::shared::assert_text;
 use ami_session::{Act, Pending, Session};
 use ami_text::{Feed, Message};
+use dots::SharedBytes;
 use replica::Refusal;
-use status_report::{Answer, SharedBytes};
+use status_report::Answer;
 use std::alloc::Global;
 use std::process::Abort;
 

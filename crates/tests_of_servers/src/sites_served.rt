@@ -5,7 +5,7 @@ use crate::replies::REPORT;
 use crate::serving::{HERE, Limit, are_free, bound, free_port, served, settings};
 use crate::shared::whole_status;
 use ami_text::MemorySink;
-use server::{LAST_PORT, ServeSitesFault, ServerSettings};
+use server::{LAST_PORT, ServeSitesFault, ServerSettings, SiteOutput};
 use site_journal::{Journaled, StepDeed};
 use status_report::{Answer, Ask, report};
 use std::alloc::Global;
@@ -20,15 +20,13 @@ fn there() -> Ipv4Addr {
     Ipv4Addr::new(127, 0, 0, 2)
 }
 
-// Each journal's site shows this.
-pub(crate) fn assert_shows(rt: &impl Abort, alloc: Global, journals: &[Journaled], text: &str) {
+// A journal's site shows this.
+pub(crate) fn assert_shows(rt: &impl Abort, alloc: Global, journal: &Journaled, text: &str) {
     let status = whole_status(alloc);
-    for journal in journals {
-        let shown = report(alloc, journal.replica(), &status).expect(rt, "memory");
-        assert!(*rt; shown.as_slice() == text.as_bytes());
-        drop(shown);
-    }
+    let shown = report(alloc, journal.replica(), &status).expect(rt, "memory");
     drop(status);
+    assert!(*rt; shown.as_slice() == text.as_bytes());
+    drop(shown);
 }
 
 // Whether a command was done for a client of a journal's site.
@@ -40,17 +38,22 @@ fn has_done(journal: &Journaled) -> bool {
     done
 }
 
-// The journals of sites after each has had a number of sessions.
-fn journals_of<R>(rt: &R, alloc: Global, settings: &ServerSettings, sessions: u32) -> Vec<Journaled>
+// What sites end with after each has had a number of sessions.
+fn ends_of<R>(
+    rt: &R,
+    alloc: Global,
+    settings: &ServerSettings,
+    sessions: u32,
+) -> Vec<SiteOutput<()>>
 where
     R: Net<Listener = TcpListener, Stream = TcpStream> + Abort + Threads + Wait + Clock + Sync,
 {
     let (ended, log) = served(rt, alloc, settings, sessions, 10);
     drop(log);
-    ended.expect(rt, "journals")
+    ended.expect(rt, "ends")
 }
 
-// The journals of sites at the first free port, which are served to clients that have a number of sessions at each.
+// What sites at the first free port end with, which are served to clients that have a number of sessions at each.
 fn served_to<R>(
     rt: &R,
     alloc: Global,
@@ -59,7 +62,7 @@ fn served_to<R>(
     limit: Limit,
     sessions: u32,
     clients: Clients,
-) -> Vec<Journaled>
+) -> Vec<SiteOutput<()>>
 where
     R: Net<Listener = TcpListener, Stream = TcpStream> + Abort + Threads + Wait + Clock + Sync,
 {
@@ -67,29 +70,31 @@ where
     assert!(*rt; port < LAST_PORT);
     let settings = settings(rt, sites, HERE, port, limit);
     let lent = &settings;
-    let (journals, _) = join(
+    let (ends, _) = join(
         rt,
-        move || journals_of(rt, alloc, lent, sessions),
+        move || ends_of(rt, alloc, lent, sessions),
         move || act(rt, port, clients),
     );
     drop(settings);
-    journals
+    ends
 }
 
 #[test]
 fn what_one_site_is_told_the_other_shows(rt: HostRuntime) {
     let alloc = rt.alloc();
-    let journals = served_to(&rt, alloc, 24_300, 2, Limit::Usual, 1, Clients::OfTwoSites);
-    assert!(rt; journals.len() == 2);
-    assert_shows(&rt, alloc, &journals, REPORT);
+    let ends = served_to(&rt, alloc, 24_300, 2, Limit::Usual, 1, Clients::OfTwoSites);
+    assert!(rt; ends.len() == 2);
+    for end in &ends {
+        assert_shows(&rt, alloc, &end.journal, REPORT);
+    }
     // The first site got the add, and the second has taken its frame.
-    assert!(rt; has_done(&journals[0]) && !has_done(&journals[1]));
-    drop(journals);
+    assert!(rt; has_done(&ends[0].journal) && !has_done(&ends[1].journal));
+    drop(ends);
 }
 
 #[test]
 fn the_first_thousand_steps_are_dropped(rt: HostRuntime) {
-    let journals = served_to(
+    let ends = served_to(
         &rt,
         rt.alloc(),
         24_560,
@@ -98,10 +103,10 @@ fn the_first_thousand_steps_are_dropped(rt: HostRuntime) {
         1,
         Clients::One(Client::AskOften),
     );
-    assert!(rt; journals.len() == 1);
+    assert!(rt; ends.len() == 1);
     // A pump that finds the journal full during the session drops its few steps.
-    let start = journals[0].start();
-    drop(journals);
+    let start = ends[0].journal.start();
+    drop(ends);
     assert!(rt; start >= 1_000 && start < 2_000);
 }
 
@@ -123,7 +128,7 @@ fn clients_that_take_too_long_lose_their_places(rt: HostRuntime) {
 }
 
 // Whether serving sites fails since this port is in use.
-fn is_taken(ended: &Result<Vec<Journaled>, ServeSitesFault>, port: u16) -> bool {
+fn is_taken(ended: &Result<Vec<SiteOutput<()>>, ServeSitesFault>, port: u16) -> bool {
     match ended {
         Err(ServeSitesFault::CannotListen(own, _)) => *own == port,
         _ => false,
@@ -175,7 +180,7 @@ where
     let (ended, log) = served(rt, alloc, &settings, 0, writes);
     drop(settings);
     let is_wanted = match wanted {
-        End::Served => matches!(&ended, Ok(journals) if journals.len() == 2),
+        End::Served => matches!(&ended, Ok(ends) if ends.len() == 2),
         End::WriteFailed => matches!(&ended, Err(ServeSitesFault::Write)),
         End::Taken(port) => is_taken(&ended, port),
     };
@@ -214,8 +219,8 @@ fn the_log_tells_who_listens(rt: HostRuntime) {
 #[test]
 fn a_client_sees_what_another_adds_meanwhile(rt: HostRuntime) {
     let alloc = rt.alloc();
-    let journals = served_to(&rt, alloc, 24_520, 1, Limit::Usual, 2, Clients::AtOnce);
-    assert!(rt; journals.len() == 1);
-    assert_shows(&rt, alloc, &journals, REPORT);
-    drop(journals);
+    let ends = served_to(&rt, alloc, 24_520, 1, Limit::Usual, 2, Clients::AtOnce);
+    assert!(rt; ends.len() == 1);
+    assert_shows(&rt, alloc, &ends[0].journal, REPORT);
+    drop(ends);
 }

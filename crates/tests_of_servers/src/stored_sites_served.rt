@@ -11,13 +11,12 @@ use crate::sites_served::assert_shows;
 use ami_text::MemorySink;
 use dots::Memory;
 use replica::Replica;
-use server::{LAST_PORT, StoredSiteOutput, StoredStart, serve_stored_sites};
+use server::{StoredSiteOutput, StoredStart, serve_stored_sites};
 use site_journal::{Step, StepDeed};
 use status_report::Ask;
 use std::alloc::Global;
 use std::net::{Net, TcpListener, TcpStream};
 use std::process::Abort;
-use std::slice;
 use std::sync::Wait;
 use std::thread::{Threads, join};
 use std::time::Clock;
@@ -141,8 +140,7 @@ where
     R: Net<Listener = TcpListener, Stream = TcpStream> + Abort + Threads + Wait + Clock + Sync,
 {
     let settings = settings(rt, 2, HERE, port, Limit::Usual);
-    assert!(*rt; settings.sites == 2 && settings.places == 2);
-    assert!(*rt; 0 < settings.port && settings.port <= LAST_PORT);
+    assert!(*rt; settings.sites == 2);
     let starts = starts(rt, alloc, refuses_commands);
     let mut log = MemorySink::failing(alloc, 700, 10);
     let events = events(rt, alloc);
@@ -190,7 +188,7 @@ fn stores_of_sites_that_end_have_all_steps(rt: HostRuntime) {
         // At least a whole, and the add or the frame that has it.
         let (stored, done) = counts(lent, end);
         assert!(*lent; end.fault.is_none() && 2 <= stored && stored == done);
-        assert_shows(lent, alloc, slice::from_ref(&end.journal), REPORT);
+        assert_shows(lent, alloc, &end.journal, REPORT);
     }
     drop(ends);
 }

@@ -55,9 +55,9 @@ fn assert_trial<L: StoredLedger, R: Abort + Wait>(
 ) {
     match trial {
         Trial::Stops => assert_stops(rt, alloc, desk, pass),
-        Trial::Saves => assert_saves(rt, alloc, desk, pass),
+        Trial::Saves => assert_saves(rt, desk, pass),
         Trial::GoesOn => assert_goes_on(rt, desk, pass),
-        Trial::Port => assert_port(rt, alloc, desk, pass),
+        Trial::Port => assert_port(rt, desk, pass),
         Trial::Fills => assert_fills(rt, desk, pass),
     }
 }

@@ -1,6 +1,7 @@
 //! What is asserted of desks with a store.
 use crate::asks::{add, status};
 use crate::memory_store::MemoryStore;
+use dots::SharedBytes;
 use serve::Desk as SessionDesk;
 use site_desk::Pass;
 use site_journal::{DeskFault, Port, Receipt, StepDeed};
@@ -100,25 +101,19 @@ pub(crate) fn assert_stops<L: StoredLedger, R: Abort + Wait>(
     assert_saved(rt, desk, first, 0, 1, 0);
 }
 
-// A copy of the frame of a receipt of a whole.
-fn frame_of(rt: &impl Abort, alloc: Global, receipt: &Receipt) -> Vec<u8> {
-    match &receipt.deed {
-        StepDeed::Whole(bytes) => Vec::from_slice(alloc, bytes.as_slice()).expect(rt, "memory"),
+// The frame of a receipt of a whole.
+fn frame_of(rt: &impl Abort, receipt: Receipt) -> SharedBytes {
+    match receipt.deed {
+        StepDeed::Whole(bytes) => bytes,
         _ => rt.panic("no frame"),
     }
 }
 
 // A site puts all that it knows into a frame, and takes it.
-fn take_whole<L: StoredLedger, R: Abort + Wait>(
-    rt: &R,
-    alloc: Global,
-    desk: &Desk<L>,
-    pass: &mut Pass<L>,
-) {
+fn take_whole<L: StoredLedger, R: Abort + Wait>(rt: &R, desk: &Desk<L>, pass: &mut Pass<L>) {
     let whole = desk.whole(rt, pass).ok().expect(rt, "a receipt");
     let whole = whole.into_receipt();
-    let bytes = frame_of(rt, alloc, &whole);
-    drop(whole);
+    let bytes = frame_of(rt, whole);
     let taken = desk.take(rt, pass, bytes).ok().expect(rt, "a receipt");
     drop(taken);
 }
@@ -134,14 +129,9 @@ fn assert_drops<L: StoredLedger, R: Abort + Wait>(rt: &R, desk: &Desk<L>) {
 }
 
 // A take is saved with a later commit, and then the site as the store's base.
-pub(crate) fn assert_saves<L: StoredLedger, R: Abort + Wait>(
-    rt: &R,
-    alloc: Global,
-    desk: Desk<L>,
-    pass: Pass<L>,
-) {
+pub(crate) fn assert_saves<L: StoredLedger, R: Abort + Wait>(rt: &R, desk: Desk<L>, pass: Pass<L>) {
     let mut pass = pass;
-    take_whole(rt, alloc, &desk, &mut pass);
+    take_whole(rt, &desk, &mut pass);
     assert_drops(rt, &desk);
     let cut = desk.cut(rt, &mut pass).ok().expect(rt, "a receipt");
     drop(pass);
@@ -165,12 +155,10 @@ pub(crate) fn assert_goes_on<L: StoredLedger, R: Abort + Wait>(
 // A port takes its own frame of all that its site knows.
 fn assert_takes<L: StoredLedger, R: Abort + Wait>(
     rt: &R,
-    alloc: Global,
     port: &mut StoredPort<'_, MemoryStore, L>,
 ) {
     let whole = port.whole(rt).ok().expect(rt, "a receipt");
-    let bytes = frame_of(rt, alloc, &whole);
-    drop(whole);
+    let bytes = frame_of(rt, whole);
     let taken = port.take(rt, bytes).ok().expect(rt, "a receipt");
     drop(taken);
 }
@@ -186,15 +174,10 @@ fn assert_cuts<L: StoredLedger, R: Abort + Wait>(
 }
 
 // The steps of a port are saved, and a take with the next of its frames.
-pub(crate) fn assert_port<L: StoredLedger, R: Abort + Wait>(
-    rt: &R,
-    alloc: Global,
-    desk: Desk<L>,
-    pass: Pass<L>,
-) {
+pub(crate) fn assert_port<L: StoredLedger, R: Abort + Wait>(rt: &R, desk: Desk<L>, pass: Pass<L>) {
     let mut pass = pass;
     let mut port = StoredPort::new(&desk, &mut pass);
-    assert_takes(rt, alloc, &mut port);
+    assert_takes(rt, &mut port);
     assert_cuts(rt, &mut port);
     drop(port);
     drop(pass);

@@ -1,7 +1,7 @@
 //! Rows of steps.
 use crate::shared::{ADD, add, assert_bytes, bytes, penalty, row, sales, sip};
 use ask_code::AskFault;
-use dots::{Bytes, Pause, Text80};
+use dots::{Pause, SharedBytes, Text80};
 use replica::{Command, Refusal};
 use site_journal::{Step, StepDeed};
 use status_report::{Answer, Ask};
@@ -41,8 +41,8 @@ fn assert_command(rt: &impl Abort, alloc: Global, command: Command, words: &str,
 }
 
 // The bytes of a frame; a row may have any.
-fn frame(rt: &impl Abort, alloc: Global) -> Bytes {
-    Bytes::new(bytes(rt, alloc, &["00ff7f"]))
+fn frame(rt: &impl Abort, alloc: Global) -> SharedBytes {
+    SharedBytes::new(alloc, bytes(rt, alloc, &["00ff7f"])).expect(rt, "memory")
 }
 
 // Asserts that a deed has no row.

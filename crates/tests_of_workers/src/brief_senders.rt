@@ -1,6 +1,6 @@
 //! An outlet that waits for a slow receiver only shortly: which items it drops, and when its receiver lacks none any more.
+use crate::frames::shared;
 use crate::links::{link, receive};
-use dots::Bytes;
 use site_pumps::{BriefSender, Outlet};
 use std::alloc::Global;
 use std::process::Abort;
@@ -9,7 +9,7 @@ use std::time::Clock;
 
 // Sends an item of one byte.
 fn send_byte<R: Abort + Wait + Clock>(rt: &R, alloc: Global, sender: &mut BriefSender, byte: u8) {
-    let item = Bytes::new(Vec::from_slice(alloc, &[byte]).expect(rt, "memory"));
+    let item = shared(rt, alloc, &[byte]);
     assert!(*rt; sender.send(rt, &item).is_ok());
     drop(item);
 }

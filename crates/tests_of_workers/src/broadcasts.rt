@@ -2,7 +2,7 @@
 ghost use Rattle.std.specs.Prelude.{◌≡◌, ◌≤◌, ℕ, [], IfOk, vec_capacity, vec_len};
 ghost use Rattle.dots.specs.declared.limits.TheConstants.{MOST_COUNT};
 
-use dots::{Bytes, MOST_COUNT, Memory};
+use dots::{MOST_COUNT, Memory, SharedBytes};
 use site_journal::{Bell, DeskFault, Port, Receipt, StepDeed};
 use site_pumps::{Deed, LinkPlan, NoReceipts, Outlet, broadcast, broadcast_whole, pump_out};
 use std::alloc::Global;
@@ -19,15 +19,17 @@ struct BytePort {
 
 impl BytePort {
     // The frame of the next step. A port does 200 steps.
-    fn next_frame(&self) -> Result<Bytes, DeskFault>
+    fn next_frame(&self) -> Result<SharedBytes, DeskFault>
         ensures { IfOk result (λ frame. self.now.steps ≤ 199) }
     {
         if self.steps >= 200 {
             return Err(DeskFault::JournalFull);
         }
-        let mut bytes = Vec::new(self.alloc);
-        match bytes.push(self.steps as u8) {
-            Ok(()) => Ok(Bytes::new(bytes)),
+        let Ok(bytes) = Vec::from_slice(self.alloc, &[self.steps as u8]) else {
+            return Err(DeskFault::Memory);
+        };
+        match SharedBytes::new(self.alloc, bytes) {
+            Ok(frame) => Ok(frame),
             Err(_) => Err(DeskFault::Memory),
         }
     }
@@ -82,7 +84,7 @@ impl<R> Port<R> for BytePort {
         }
     }
 
-    fn take(&mut self, _rt: &R, bytes: Vec<u8>) -> Result<Receipt, (DeskFault, Vec<u8>)> {
+    fn take(&mut self, _rt: &R, bytes: SharedBytes) -> Result<Receipt, (DeskFault, SharedBytes)> {
         self.fault = Some(DeskFault::JournalFull);
         Err((DeskFault::JournalFull, bytes))
     }
@@ -107,7 +109,7 @@ impl ListOutlet {
 impl<R> Outlet<R> for ListOutlet {
     ghost given = { λ old item new. Unit {0} };
 
-    fn send(&mut self, _rt: &R, item: &Bytes) -> Result<(), Memory> {
+    fn send(&mut self, _rt: &R, item: &SharedBytes) -> Result<(), Memory> {
         if self.is_down {
             return Ok(());
         }

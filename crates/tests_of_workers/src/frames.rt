@@ -1,4 +1,9 @@
 //! Frames that come from elsewhere, as their bytes: in version 2, but for one.
+ghost use Rattle.std.specs.Prelude.{◌≡◌};
+
+use dots::SharedBytes;
+use std::alloc::Global;
+use std::process::Abort;
 
 // The first frame of site 0, after it added SIP/1 to the first queue with defaults.
 pub(crate) const ADDED: &[u8] = b"\x00\x00\x00\x5e\x51\x44\x02\x00\x00\x00\x00\x00\x00\x00\x00\x01\
@@ -25,3 +30,11 @@ pub(crate) const TOUCHING: &[u8] =
 \x00\x00\x00\x02\x00\x00\x00\x00\x00\x00\x00\x00\x01\x00\x00\x00\x00\x00\x00\x00\x01\
 \x00\x00\x00\x00\x00\x00\x00\x00\x02\x00\x00\x00\x00\x00\x00\x00\x02\
 \x00\x00\x00\x00\x00\x00\x00\x00";
+
+// A copy of bytes, which its owners share.
+pub(crate) fn shared(rt: &impl Abort, alloc: Global, bytes: &[u8]) -> SharedBytes
+    ensures { result ≡ bytes.now }
+{
+    let bytes = Vec::from_slice(alloc, bytes).expect(rt, "memory");
+    SharedBytes::new(alloc, bytes).expect(rt, "memory")
+}

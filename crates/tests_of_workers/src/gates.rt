@@ -1,7 +1,7 @@
 //! What waits for another thread, for some time and no longer.
 ghost use Rattle.std.specs.Prelude.{◌≡◌};
 
-use site_journal::Gate;
+use site_desk::Gate;
 use std::sync::atomic::{AtomicU64, Ordering};
 use std::thread;
 

@@ -3,6 +3,7 @@ ghost use Rattle.std.specs.Prelude.{◌≡◌, ◌<◌, ◌^◌, length};
 ghost use Rattle.site_journal.specs.Journals.{IsOfSite};
 
 use crate::asks::{SALES, list_of, request};
+use crate::frames::shared;
 use dots::{Memory, SiteId};
 use replica::Replica;
 use site_journal::{Journaled, Receipt, SettleFault, Step, StepDeed, settle};
@@ -66,7 +67,10 @@ pub(crate) fn whole(rt: &impl Abort, journal: &mut Journaled, pass: u32) -> Step
 pub(crate) fn frame(rt: &impl Abort, journal: &mut Journaled, pass: u32) -> Vec<u8> {
     let step = cut(rt, journal, pass);
     match step.deed {
-        StepDeed::Cut(Some(bytes)) => bytes.into_vec(),
+        StepDeed::Cut(Some(bytes)) => {
+            let alloc = bytes.allocator();
+            bytes.into_vec(alloc).expect(rt, "memory")
+        }
         _ => rt.panic("another deed"),
     }
 }
@@ -79,7 +83,7 @@ pub(crate) fn take(
     pass: u32,
     frame: &[u8],
 ) {
-    let bytes = Vec::from_slice(alloc, frame).expect(rt, "memory");
+    let bytes = shared(rt, alloc, frame);
     let step = journal.take(pass, bytes).ok().expect(rt, "a step");
     assert!(*rt; step.pass == pass && matches!(step.deed, StepDeed::Took(_)));
     drop(step);

@@ -1,6 +1,7 @@
 //! Links: how many items they hold, what comes back, and when they end; and helpers that send and receive.
 ghost use Rattle.std.specs.Prelude.{◌≡◌, ◌≤◌};
 
+use crate::frames::shared;
 use crate::gates::{MANY_TURNS, comes};
 use site_links::{Link, LinkReceiver, LinkSender, compare};
 use std::alloc::Global;
@@ -23,7 +24,7 @@ pub(crate) fn link(rt: &impl Abort, alloc: Global, capacity: usize) -> (LinkSend
 pub(crate) fn send<R: Abort + Wait>(rt: &R, alloc: Global, sender: &mut LinkSender, item: &[u8])
     ensures { sender.new.link ≡ sender.old.link }
 {
-    let bytes = Vec::from_slice(alloc, item).expect(rt, "memory");
+    let bytes = shared(rt, alloc, item);
     assert!(*rt; sender.send(rt, bytes).is_ok());
 }
 
@@ -50,7 +51,7 @@ fn items_are_counted_at_both_ends(rt: HostRuntime) {
 fn bytes_come_back_once_the_receiver_is_gone(rt: HostRuntime) {
     let (mut sender, receiver) = link(&rt, rt.alloc(), 1);
     drop(receiver);
-    let bytes = Vec::from_slice(rt.alloc(), b"a").expect(&rt, "memory");
+    let bytes = shared(&rt, rt.alloc(), b"a");
     let back = sender.send(&rt, bytes).err().expect(&rt, "bytes");
     assert!(rt; back.as_slice() == b"a".as_slice());
     assert!(rt; sender.down());
@@ -62,7 +63,7 @@ fn bytes_come_back_once_the_receiver_is_gone(rt: HostRuntime) {
 fn takes_offer<R: Abort + Wait>(rt: &R, alloc: Global, sender: &mut LinkSender, byte: u8) -> bool
     ensures { sender.new.link ≡ sender.old.link }
 {
-    let item = Vec::from_slice(alloc, &[byte]).expect(rt, "memory");
+    let item = shared(rt, alloc, &[byte]);
     match sender.offer(rt, item) {
         Ok(()) => true,
         Err(back) => {

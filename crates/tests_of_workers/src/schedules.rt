@@ -5,6 +5,7 @@ use crate::asks::add;
 use crate::desk_steps::called;
 use crate::gates::{MANY_TURNS, comes};
 use crate::links::link;
+use dots::SharedBytes;
 use site_desk::{DeskPort, Pass, SiteDesk, SiteLedger};
 use site_journal::{Bell, DeskFault, Receipt, StepDeed};
 use site_links::{LinkReceiver, LinkSender};
@@ -95,7 +96,7 @@ fn pumped<L: SiteLedger, R: Abort + Wait>(
 fn receive_behind<R: Abort + Wait>(
     rt: &R,
     receiver: &mut LinkReceiver,
-    items: &mut Vec<Vec<u8>>,
+    items: &mut Vec<SharedBytes>,
 ) -> bool {
     match receiver.recv(rt) {
         Some(bytes) => {
@@ -112,7 +113,7 @@ fn received<R: Abort + Wait>(
     alloc: Global,
     receiver: LinkReceiver,
     count: &AtomicU64,
-) -> Vec<Vec<u8>> {
+) -> Vec<SharedBytes> {
     let mut receiver = receiver;
     let mut items = Vec::new(alloc);
     for _ in rt.forever() {
@@ -135,7 +136,7 @@ fn is_frame(receipt: &Receipt, bytes: &[u8]) -> bool {
 }
 
 // Asserts that items are the frames of receipts, which are given by their places.
-fn assert_frames(rt: &impl Abort, items: Vec<Vec<u8>>, receipts: &[Receipt], places: &[usize]) {
+fn assert_frames(rt: &impl Abort, items: Vec<SharedBytes>, receipts: &[Receipt], places: &[usize]) {
     assert!(*rt; items.len() == places.len());
     for (item, place) in items.as_slice().iter().zip(places) {
         let receipt = receipts.get(*place).expect(rt, "a receipt");

@@ -5,7 +5,7 @@ ghost use Rattle.site_journal.specs.declared.journaled.TheConstants.{MOST_STEPS}
 use crate::runs::asks::{queue_list, some_ask};
 use crate::runs::numbers::Numbers;
 use crate::runs::runs_fault::RunsFault;
-use dots::{Bytes, SiteId};
+use dots::{SharedBytes, SiteId};
 use replica::Replica;
 use site_journal::{DeskFault, Journaled, Receipt, Step, StepDeed, settle};
 use std::alloc::Global;
@@ -40,7 +40,7 @@ fn push_receipt(receipts: &mut Vec<Receipt>, position: u64, step: Step) -> Resul
 }
 
 // Appends the frame that a step made, if it made one.
-fn push_frame(frames: &mut Vec<Bytes>, deed: &StepDeed) -> Result<(), RunsFault> {
+fn push_frame(frames: &mut Vec<SharedBytes>, deed: &StepDeed) -> Result<(), RunsFault> {
     let frame = match deed {
         StepDeed::Cut(Some(bytes)) => bytes.copy()?,
         StepDeed::Whole(bytes) => bytes.copy()?,
@@ -51,7 +51,7 @@ fn push_frame(frames: &mut Vec<Bytes>, deed: &StepDeed) -> Result<(), RunsFault>
 }
 
 // One of the latest frames, if there is one.
-fn some_frame<'a>(numbers: &mut Numbers, frames: &'a [Bytes]) -> Option<&'a Bytes> {
+fn some_frame<'a>(numbers: &mut Numbers, frames: &'a [SharedBytes]) -> Option<&'a SharedBytes> {
     if frames.is_empty() {
         return None;
     }
@@ -100,7 +100,7 @@ impl Site {
         &mut self,
         alloc: Global,
         numbers: &mut Numbers,
-        frames: &mut Vec<Bytes>,
+        frames: &mut Vec<SharedBytes>,
     ) -> Result<(), RunsFault> {
         match numbers.below(256) {
             0 => self.whole(frames),
@@ -121,13 +121,13 @@ impl Site {
         push_receipt(&mut self.asked, position, step?)
     }
 
-    fn cut(&mut self, frames: &mut Vec<Bytes>) -> Result<(), RunsFault> {
+    fn cut(&mut self, frames: &mut Vec<SharedBytes>) -> Result<(), RunsFault> {
         let position = self.journal.len();
         let step = self.journal.cut(FRAMES);
         self.send(frames, position, step)
     }
 
-    fn whole(&mut self, frames: &mut Vec<Bytes>) -> Result<(), RunsFault> {
+    fn whole(&mut self, frames: &mut Vec<SharedBytes>) -> Result<(), RunsFault> {
         let position = self.journal.len();
         let step = self.journal.whole(FRAMES);
         self.send(frames, position, step)
@@ -136,7 +136,7 @@ impl Site {
     // Keeps the receipt of a step that may have made a frame, and the frame.
     fn send(
         &mut self,
-        frames: &mut Vec<Bytes>,
+        frames: &mut Vec<SharedBytes>,
         position: u64,
         step: Result<Step, DeskFault>,
     ) -> Result<(), RunsFault> {
@@ -148,8 +148,8 @@ impl Site {
         push_receipt(&mut self.sent, position, step)
     }
 
-    fn take(&mut self, frame: &Bytes) -> Result<(), RunsFault> {
-        let bytes = frame.copy()?.into_vec();
+    fn take(&mut self, frame: &SharedBytes) -> Result<(), RunsFault> {
+        let bytes = frame.copy()?;
         let position = self.journal.len();
         match self.journal.take(TAKES, bytes) {
             Ok(step) => push_receipt(&mut self.taken, position, step),

@@ -5,7 +5,7 @@ ghost use Rattle.site_journal.specs.declared.journaled.TheConstants.{MOST_STEPS}
 use crate::runs::numbers::Numbers;
 use crate::runs::runs_fault::RunsFault;
 use crate::runs::site::Site;
-use dots::Bytes;
+use dots::SharedBytes;
 use site_journal::Journaled;
 use std::alloc::Global;
 
@@ -40,7 +40,7 @@ fn take_turns(
     alloc: Global,
     sites: &mut [Site],
     steps: u32,
-    frames: &mut Vec<Bytes>,
+    frames: &mut Vec<SharedBytes>,
 ) -> Result<(), RunsFault> {
     let mut numbers = Numbers::new(u64::from(steps));
     for _ in 0..steps {

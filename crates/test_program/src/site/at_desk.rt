@@ -1,10 +1,10 @@
 //! A desk as a place where deeds are done, by one pass.
 ghost use Rattle.std.specs.Prelude.{◌≡◌};
 
-use crate::site::deed::{Deed, End, Place, refused};
+use crate::site::deed::{Deed, End, Place, copy_of, refused};
 use dots::Memory;
-use site_desk::{Pass, SiteDesk, SiteLedger};
-use site_journal::{DeskFault, Gate, Receipt};
+use site_desk::{Gate, Pass, SiteDesk, SiteLedger};
+use site_journal::{DeskFault, Receipt};
 use status_report::Ask;
 use std::alloc::Global;
 use std::sync::Wait;
@@ -66,7 +66,7 @@ fn taken<L: SiteLedger, R: Wait>(
     pass: &mut Pass<L>,
     bytes: &[u8],
 ) -> End {
-    let Ok(given) = Vec::from_slice(alloc, bytes) else {
+    let Ok(given) = copy_of(alloc, bytes) else {
         return End::Refused(DeskFault::Memory);
     };
     match desk.take(rt, pass, given) {

@@ -1,5 +1,5 @@
 //! A journal as a place where deeds are done.
-use crate::site::deed::{Deed, End, Place, refused};
+use crate::site::deed::{Deed, End, Place, copy_of, refused};
 use dots::Memory;
 use replica::Replica;
 use site_journal::{DeskFault, Journaled, Receipt, Step};
@@ -152,7 +152,7 @@ fn end_of(position: u64, step: Result<Step, DeskFault>) -> End {
 
 // Takes a frame.
 fn taken(journal: &mut Journaled, alloc: Global, bytes: &[u8]) -> End {
-    let Ok(given) = Vec::from_slice(alloc, bytes) else {
+    let Ok(given) = copy_of(alloc, bytes) else {
         return End::Refused(DeskFault::Memory);
     };
     let position = journal.len();

@@ -1,4 +1,5 @@
 //! Deeds at a site, the places where they are done, and their results.
+use dots::{Memory, SharedBytes};
 use site_journal::{DeskFault, Receipt};
 use status_report::Ask;
 use std::alloc::Global;
@@ -38,8 +39,13 @@ pub(crate) trait Place<R> {
     fn done(&mut self, rt: &R, alloc: Global, deed: &Deed) -> End;
 }
 
+// A copy of the bytes of a frame that a site is to take. Fails only when out of memory.
+pub(crate) fn copy_of(alloc: Global, bytes: &[u8]) -> Result<SharedBytes, Memory> {
+    SharedBytes::new(alloc, Vec::from_slice(alloc, bytes)?)
+}
+
 // How a deed ended that was refused a frame, of which these bytes came back.
-pub(crate) fn refused(fault: DeskFault, back: Vec<u8>, bytes: &[u8]) -> End {
+pub(crate) fn refused(fault: DeskFault, back: SharedBytes, bytes: &[u8]) -> End {
     let is_back = back.as_slice() == bytes;
     drop(back);
     if is_back {

@@ -1,5 +1,7 @@
 //! A peer's box.
+use dots::SharedBytes;
 use peer_box::{Due, PeerBox};
+use std::alloc::Global;
 use std::process::Abort;
 
 // What is due next, in words: `-` for nothing, `whole`, or the bytes of a frame as a text.
@@ -15,25 +17,29 @@ fn assert_due(rt: &impl Abort, peer: &mut PeerBox, wanted: &str) {
 }
 
 // Puts a frame, for which there is memory.
-fn put(rt: &impl Abort, peer: &mut PeerBox, frame: &str) {
-    peer.put(frame.as_bytes()).expect(rt, "memory");
+fn put(rt: &impl Abort, alloc: Global, peer: &mut PeerBox, frame: &str) {
+    let bytes = Vec::from_slice(alloc, frame.as_bytes()).expect(rt, "memory");
+    let bytes = SharedBytes::new(alloc, bytes).expect(rt, "memory");
+    peer.put(&bytes).expect(rt, "memory");
+    drop(bytes);
 }
 
 #[test]
 fn frames_wait_up_to_a_limit(rt: HostRuntime) {
-    let mut peer = PeerBox::new(rt.alloc(), 10);
-    put(&rt, &mut peer, "lost");
+    let alloc = rt.alloc();
+    let mut peer = PeerBox::new(alloc, 10);
+    put(&rt, alloc, &mut peer, "lost");
     assert_due(&rt, &mut peer, "-");
     peer.open();
-    put(&rt, &mut peer, "lost");
+    put(&rt, alloc, &mut peer, "lost");
     assert!(rt; !peer.is_idle());
     assert_due(&rt, &mut peer, "whole");
     assert_due(&rt, &mut peer, "-");
-    put(&rt, &mut peer, "12345");
-    put(&rt, &mut peer, "6789a");
+    put(&rt, alloc, &mut peer, "12345");
+    put(&rt, alloc, &mut peer, "6789a");
     assert_due(&rt, &mut peer, "12345");
-    put(&rt, &mut peer, "bcdef");
-    put(&rt, &mut peer, "g");
+    put(&rt, alloc, &mut peer, "bcdef");
+    put(&rt, alloc, &mut peer, "g");
     assert_due(&rt, &mut peer, "whole");
     assert_due(&rt, &mut peer, "-");
     assert!(rt; peer.is_idle());
@@ -42,16 +48,17 @@ fn frames_wait_up_to_a_limit(rt: HostRuntime) {
 
 #[test]
 fn a_whole_takes_the_place_of_frames(rt: HostRuntime) {
-    let mut peer = PeerBox::new(rt.alloc(), 10);
+    let alloc = rt.alloc();
+    let mut peer = PeerBox::new(alloc, 10);
     peer.require_whole();
     assert_due(&rt, &mut peer, "-");
     peer.open();
     assert_due(&rt, &mut peer, "whole");
-    put(&rt, &mut peer, "12345");
+    put(&rt, alloc, &mut peer, "12345");
     peer.require_whole();
     assert_due(&rt, &mut peer, "whole");
     assert_due(&rt, &mut peer, "-");
-    put(&rt, &mut peer, "12345");
+    put(&rt, alloc, &mut peer, "12345");
     peer.close();
     assert_due(&rt, &mut peer, "-");
     drop(peer);

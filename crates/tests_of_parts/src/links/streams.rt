@@ -158,7 +158,7 @@ fn assert_next(
                 return;
             }
             Some(Item::Frame(bytes)) => {
-                assert_bytes(rt, alloc, &bytes, digits);
+                assert_bytes(rt, alloc, bytes.as_slice(), digits);
                 drop(bytes);
                 return;
             }

@@ -1,6 +1,5 @@
 //! Two sites in one process, linked over TCP.
-ghost use Rattle.std.specs.Prelude.{◌≡◌, ◌≤◌, vec_len};
-ghost use Rattle.std.specs.List.{All};
+ghost use Rattle.std.specs.Prelude.{◌≡◌, vec_len};
 
 use crate::peers::served_sites::listen;
 use crate::shared::{add, list, site, status};
@@ -8,9 +7,9 @@ use dots::SiteId;
 use event_log::EventLog;
 use link_hello::{Card, queues_digest};
 use link_keys::Key;
-use pass_desk::{Ear, SiteBell};
+use pass_desk::Ear;
 use replica::{QueueList, Replica};
-use site_desk::{DeskPort, Pass, SiteDesk, SiteLedger};
+use site_desk::{DeskPort, Pass, SiteBell, SiteDesk, SiteLedger};
 use site_journal::{DeskFault, StepDeed};
 use site_peers::{
     EndReason, LinkLog, PeerLinks, Ring, SharedOutbox, dial_peer, end_links, hear_peers, spread,
@@ -281,9 +280,7 @@ fn launch_of(
     test: TestSite,
     listener: TcpListener,
     peer: SocketAddr,
-) -> SiteTasks<Shared, Work>
-    ensures { vec_len result.tasks ≡ 5 }
-{
+) -> SiteTasks<Shared, Work> {
     let list = list(rt, alloc, &["sales"]);
     let site = site(rt, u16::from(test.number));
     let asked = Ask::Command(add(rt, test.interface, 0));
@@ -326,25 +323,6 @@ fn all_done(ends: &[SiteOutput<bool>]) -> bool {
     done
 }
 
-// Both of these, which have five tasks each.
-fn pair(
-    rt: &impl Abort,
-    alloc: Global,
-    first: SiteTasks<Shared, Work>,
-    second: SiteTasks<Shared, Work>,
-) -> Vec<SiteTasks<Shared, Work>>
-    requires first { vec_len first.tasks ≡ 5 }
-    requires second { vec_len second.tasks ≡ 5 }
-    ensures some { All (λ site. 1 ≤ vec_len site.tasks) result.items }
-    ensures few { All (λ site. vec_len site.tasks ≤ 256) result.items }
-    ensures number { vec_len result ≤ 2 }
-{
-    let mut sites = Vec::new(alloc);
-    sites.push(first).expect(rt, "memory");
-    sites.push(second).expect(rt, "memory");
-    sites
-}
-
 // The first site of a test, and the second one.
 fn first(adds: u32, wait: Duration, members: usize) -> TestSite {
     TestSite {
@@ -383,7 +361,9 @@ fn both_show<
     let to_other = other.local_addr().ok().expect(rt, "an address");
     let first = launch_of(rt, alloc, first, one, to_other);
     let second = launch_of(rt, alloc, second, other, to_one);
-    let sites = pair(rt, alloc, first, second);
+    let mut sites = Vec::new(alloc);
+    sites.push(first).expect(rt, "memory");
+    sites.push(second).expect(rt, "memory");
     let ends = run_sites(rt, alloc, 1_000, sites).expect(rt, "ends");
     let done = ends.len() == 2 && all_done(ends.as_slice());
     drop(ends);

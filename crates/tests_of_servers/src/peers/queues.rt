@@ -1,16 +1,17 @@
 //! What waits for a peer.
+use dots::SharedBytes;
 use peer_box::BOX_BYTES;
-use site_peers::SendQueue;
+use site_peers::{SendQueue, WholeFrame};
 use std::alloc::Global;
 use std::process::Abort;
 
 // A whole that says `text`, under a heading of 16 bytes that begins with this one.
-fn whole(rt: &impl Abort, alloc: Global, first: u8, text: &str) -> Vec<u8> {
+fn whole(rt: &impl Abort, alloc: Global, first: u8, text: &str) -> SharedBytes {
     let mut bytes = Vec::from_slice(alloc, &[first; 16]).expect(rt, "memory");
     bytes
         .extend_from_slice(text.as_bytes())
         .expect(rt, "memory");
-    bytes
+    SharedBytes::new(alloc, bytes).expect(rt, "memory")
 }
 
 // Asserts that the first bytes after the heading of what is taken are this text. An empty text: nothing is taken.
@@ -18,16 +19,20 @@ fn assert_taken(rt: &impl Abort, queue: &mut SendQueue, text: &str) {
     match queue.take() {
         None => assert!(*rt; text.is_empty()),
         Some(bytes) => {
-            let skipped = if bytes.len() > 16 { 16 } else { 0 };
-            assert!(*rt; &bytes[skipped..] == text.as_bytes());
+            let all = bytes.as_slice();
+            let skipped = if all.len() > 16 { 16 } else { 0 };
+            assert!(*rt; &all[skipped..] == text.as_bytes());
             drop(bytes);
         }
     }
 }
 
 // Gives a frame that says this text.
-fn put(rt: &impl Abort, queue: &mut SendQueue, text: &str) {
-    queue.put(text.as_bytes()).expect(rt, "memory");
+fn put(rt: &impl Abort, alloc: Global, queue: &mut SendQueue, text: &str) {
+    let bytes = Vec::from_slice(alloc, text.as_bytes()).expect(rt, "memory");
+    let bytes = SharedBytes::new(alloc, bytes).expect(rt, "memory");
+    queue.put(&bytes).expect(rt, "memory");
+    drop(bytes);
 }
 
 // Asserts whether nothing waits, and whether a whole is wanted.
@@ -38,7 +43,9 @@ fn assert_state(rt: &impl Abort, queue: &SendQueue, is_idle: bool, wants_whole: 
 // Gives a whole that says this text, whenever it was begun.
 fn give_begun(rt: &impl Abort, alloc: Global, queue: &mut SendQueue, first: u8, text: &str) {
     let bytes = whole(rt, alloc, first, text);
-    queue.give_whole(&bytes).expect(rt, "memory");
+    queue
+        .give_whole(&WholeFrame::new(&bytes))
+        .expect(rt, "memory");
     drop(bytes);
 }
 
@@ -52,14 +59,14 @@ fn give(rt: &impl Abort, alloc: Global, queue: &mut SendQueue, first: u8, text: 
 fn frames_wait_after_a_whole(rt: HostRuntime) {
     let alloc = rt.alloc();
     let mut queue = SendQueue::new(alloc, BOX_BYTES);
-    put(&rt, &mut queue, "ignored");
+    put(&rt, alloc, &mut queue, "ignored");
     assert_state(&rt, &queue, true, false);
     queue.open();
-    put(&rt, &mut queue, "ignored");
+    put(&rt, alloc, &mut queue, "ignored");
     assert_state(&rt, &queue, true, true);
     give(&rt, alloc, &mut queue, 1, "all");
-    put(&rt, &mut queue, "one");
-    put(&rt, &mut queue, "two");
+    put(&rt, alloc, &mut queue, "one");
+    put(&rt, alloc, &mut queue, "two");
     assert_state(&rt, &queue, false, false);
     assert_taken(&rt, &mut queue, "all");
     assert_taken(&rt, &mut queue, "one");
@@ -79,13 +86,13 @@ fn a_whole_that_says_the_same_does_not_wait_again(rt: HostRuntime) {
     assert_taken(&rt, &mut queue, "all");
     queue.ask_whole();
     assert!(rt; queue.wants_whole());
-    put(&rt, &mut queue, "one");
+    put(&rt, alloc, &mut queue, "one");
     give(&rt, alloc, &mut queue, 2, "all");
     assert!(rt; !queue.wants_whole());
     assert_taken(&rt, &mut queue, "one");
     assert_taken(&rt, &mut queue, "");
     queue.ask_whole();
-    put(&rt, &mut queue, "two");
+    put(&rt, alloc, &mut queue, "two");
     give(&rt, alloc, &mut queue, 3, "more");
     assert_taken(&rt, &mut queue, "more");
     assert_taken(&rt, &mut queue, "");
@@ -99,11 +106,11 @@ fn a_full_queue_waits_for_a_whole(rt: HostRuntime) {
     queue.open();
     give(&rt, alloc, &mut queue, 1, "all");
     assert_taken(&rt, &mut queue, "all");
-    put(&rt, &mut queue, "12345");
-    put(&rt, &mut queue, "6789");
+    put(&rt, alloc, &mut queue, "12345");
+    put(&rt, alloc, &mut queue, "6789");
     assert_state(&rt, &queue, true, true);
     give(&rt, alloc, &mut queue, 1, "all");
-    put(&rt, &mut queue, "last");
+    put(&rt, alloc, &mut queue, "last");
     assert_taken(&rt, &mut queue, "all");
     assert_taken(&rt, &mut queue, "last");
     drop(queue);
@@ -143,7 +150,7 @@ fn a_whole_that_is_required_waits_though_it_says_the_same(rt: HostRuntime) {
     queue.open();
     give(&rt, alloc, &mut queue, 1, "all");
     assert_taken(&rt, &mut queue, "all");
-    put(&rt, &mut queue, "one");
+    put(&rt, alloc, &mut queue, "one");
     queue.require_whole();
     assert!(rt; queue.is_idle());
     give(&rt, alloc, &mut queue, 2, "all");

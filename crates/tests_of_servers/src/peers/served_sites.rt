@@ -5,7 +5,7 @@ use crate::serving::events;
 use crate::shared::{replica, text};
 use link_keys::Key;
 use linked_site::{EndReason, LinkSettings, SiteEnd, serve_linked_site};
-use serving_clients::SessionSettings;
+use serving_clients::{ClientSettings, SessionSettings};
 use std::alloc::Global;
 use std::io::{Read, Write};
 use std::net::{Net, SocketAddr, TcpListener, TcpStream};
@@ -87,21 +87,23 @@ where
         + RandomSource
         + Sync,
 {
-    let settings = SessionSettings::new(text(rt, "admin"), text(rt, "s3"));
+    let session = SessionSettings::new(text(rt, "admin"), text(rt, "s3"));
     let events = events(rt, alloc);
+    let settings = ClientSettings {
+        session: &session,
+        connections: test.sessions,
+        events: &events,
+    };
     let served = serve_linked_site(
         rt,
         alloc,
         &settings,
-        2,
         links(rt, alloc, test, peer),
         replica(rt, alloc, test.number, &["sales"]),
         clients,
         heard,
-        test.sessions,
-        &events,
     );
-    drop(settings);
+    drop(session);
     drop(events);
     let SiteEnd { reason, journal } = served.ok().expect(rt, "an end");
     drop(journal);

@@ -2,6 +2,7 @@
 ghost use Rattle.std.specs.Prelude.{◌≡◌, false};
 
 use ami_text::{MemorySink, MemorySource};
+use dots::SharedBytes;
 use link_keys::Key;
 use link_stream::{Item, ItemSender, ReceiveFault, SendFault};
 use site_journal::DeskFault;
@@ -43,7 +44,10 @@ impl<R> ItemQueue<R> for Turns {
         if self.left % 2 == 1 {
             return Some(Item::Beat);
         }
-        match Vec::from_slice(self.alloc, &FRAME) {
+        let Ok(bytes) = Vec::from_slice(self.alloc, &FRAME) else {
+            return None;
+        };
+        match SharedBytes::new(self.alloc, bytes) {
             Ok(frame) => Some(Item::Frame(frame)),
             Err(_) => None,
         }
