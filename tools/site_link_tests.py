@@ -810,6 +810,23 @@ def sites_that_end():
     return f"sites that end, which say why after {said:.1f} s and end after {ended:.1f} s: another store, an older copy, another's frames"
 
 
+def a_start_that_waits():
+    """A site with a store answers no client before it has a frame of the peer that it dials; a frame of another site isn't enough."""
+    with tempfile.TemporaryDirectory() as room, socket.create_server(("127.0.0.1", 0)) as listener:
+        listener.settimeout(PATIENCE)
+        with Site(room, 0, free_ports(1), [listener.getsockname()[1]], f"{room}/site-0.db") as site:
+            store = os.urandom(16)
+            accepts = Peer(listener.accept()[0], 1, is_dialer=False, store=store)
+            peer, other = dialed(site, 1, store=store), dialed(site, 7)
+            need(accepts.verdict == peer.verdict == other.verdict == 0, "a site refuses a peer")
+            other.send(other.tagged(frame_of(7, 1, "SIP/7")))
+            with socket.create_connection(("127.0.0.1", site.port), PATIENCE) as client:
+                need(not select.select([client], [], [], 1)[0], "a client is answered before the site has a frame of its peer")
+                peer.send(peer.tagged(frame_of(1, 1, "SIP/1")))
+                need(select.select([client], [], [], 1)[0], "a client waits though the site has a frame of its peer")
+    return "a start that waits for a frame of the peer that is dialed"
+
+
 def silent_connections(number=20):
     """Connections that send nothing don't keep out a site."""
     with tempfile.TemporaryDirectory() as room, alone(room) as site:
@@ -1039,7 +1056,7 @@ def stores_of_sites():
 
 TESTS = [words_of_a_site, stores_of_sites, clients_of_a_site, addresses, three_sites, links_that_are_down, only_by_another, slow_lines,
          news_over_a_slow_line, restarts, a_peer_of_another_program, hellos_that_are_refused, items_that_are_refused, who_sits_on_the_line,
-         acknowledgements_that_are_refused, sites_that_end, silent_connections, a_peer_that_reads_nothing, refused_allocations]
+         acknowledgements_that_are_refused, sites_that_end, a_start_that_waits, silent_connections, a_peer_that_reads_nothing, refused_allocations]
 # What `all` changes, and what it does besides.
 LONGER = {refused_allocations: all_refused_allocations}
 MORE = [a_late_item]

@@ -28,7 +28,8 @@ pub use dot::Dot;
 pub use interface::Interface;
 pub use label::Label;
 pub use limits::{
-    MOST_CALLS, MOST_COUNT, MOST_LIVE, MOST_PENALTY, MOST_RUNS, QUEUES, SITES, TEXT_BYTES,
+    MOST_CALLS, MOST_COUNT, MOST_LIVE, MOST_PEERS, MOST_PENALTY, MOST_RUNS, QUEUES, SITES,
+    TEXT_BYTES,
 };
 pub use member::Member;
 pub use pause::Pause;

@@ -3,6 +3,9 @@
 /// The most sites. They are numbered from 0.
 pub const SITES: u16 = 64;
 
+/// The most peers that a site dials: all sites, itself among them.
+pub const MOST_PEERS: usize = 64;
+
 /// The most queues. They are numbered from 0.
 pub const QUEUES: usize = 256;
 

@@ -1,4 +1,4 @@
-ghost use Rattle.std.specs.Prelude.{◌≡◌, ◌↔◌, ◌++◌, ◌<◌, [], Err, IfErr, IfOk, IfSome, None, OnErr};
+ghost use Rattle.std.specs.Prelude.{◌≡◌, ◌↔◌, ◌++◌, ◌<◌, [], Err, IfErr, IfOk, IfSome, IsErrOf, None, OnErr};
 ghost use Rattle.std.specs.Prelude.{OnOk, Ok, Some, length};
 ghost use Rattle.link_stream.specs.Items.{IsAcknowledgement, acknowledgement_bytes};
 ghost use Rattle.link_stream.specs.Tagged.{IsTagFault, TakesTagged};
@@ -11,7 +11,7 @@ use std::alloc::Global;
 use std::marker::Model;
 
 // The next acknowledgement, taken from the front of what is held. `None` exactly where less than one and its tag is held. A fault
-// changes nothing. Errors, in order: 1 `WrongTag`; 2 `Exhausted`, if no counter is left; 3 `Memory`.
+// changes nothing. Errors, in order: 1 `WrongTag`; 2 `Exhausted`, if no counter is left.
 fn next_held(stream: &mut TaggedBytes) -> Result<Option<Acknowledgement>, ReceiveFault>
     ensures given { IfOk result (λ next. IfSome next (λ given. IsAcknowledgement given
         × TakesTagged stream.old (acknowledgement_bytes given) stream.new)) }
@@ -19,12 +19,16 @@ fn next_held(stream: &mut TaggedBytes) -> Result<Option<Acknowledgement>, Receiv
     ensures same { (result ≡ Ok None) → stream.new ≡ stream.old }
     ensures err { OnErr result (stream.new ≡ stream.old) }
     ensures cause { IfErr result (λ fault. IsTagFault fault stream.old 8) }
+    ensures memory { IsErrOf result ReceiveFault.Memory → ⊥ }
 {
-    if stream.held().len() < ACKNOWLEDGEMENT_BYTES + TAG_BYTES {
+    let held = stream.held();
+    if held.len() < ACKNOWLEDGEMENT_BYTES + TAG_BYTES {
         return Ok(None);
     }
-    match stream.take(ACKNOWLEDGEMENT_BYTES) {
-        Ok(bytes) => Ok(Some(acknowledgement_in(bytes.as_slice()))),
+    let (bytes, _) = held.split_at(ACKNOWLEDGEMENT_BYTES);
+    let acknowledgement = acknowledgement_in(bytes);
+    match stream.pass(ACKNOWLEDGEMENT_BYTES) {
+        Ok(()) => Ok(Some(acknowledgement)),
         Err(fault) => Err(fault),
     }
 }
@@ -85,7 +89,8 @@ impl AcknowledgementReceiver {
     /// The next acknowledgement: the eight bytes that come first, if the tag after them is right under the number of those given before.
     /// `None` exactly where less than one and its tag is there.
     ///
-    /// Errors, in order: the first fault once more, if there was one; `WrongTag`, `Exhausted`, `Memory`. None is given after a fault.
+    /// Errors, in order: the first fault once more, if there was one; `WrongTag`, `Exhausted`. None is given after a fault. It takes no
+    /// memory.
     pub fn next_acknowledgement(&mut self) -> Result<Option<Acknowledgement>, ReceiveFault>
         ensures given { IfOk result (λ next. IfSome next (λ given. IsAcknowledgement given
             × TakesTagged self.old.stream (acknowledgement_bytes given) self.new.stream)) }
@@ -95,6 +100,7 @@ impl AcknowledgementReceiver {
         ensures works { OnOk result ((self.old.fault ≡ None) × (self.new.fault ≡ None)) }
         ensures stopped { IfErr result (λ fault. self.old.fault ≡ None
             → IsTagFault fault self.old.stream 8) }
+        ensures memory { self.old.fault ≡ None → IsErrOf result ReceiveFault.Memory → ⊥ }
         ensures err { OnErr result (self.new.stream ≡ self.old.stream) }
         ensures kept { IfErr result (λ fault. self.new.fault ≡ Some fault) }
         ensures again { IfSome self.old.fault (λ fault. (result ≡ Err fault)

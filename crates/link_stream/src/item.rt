@@ -1,6 +1,6 @@
 ghost use Rattle.std.specs.Prelude.{◌≡◌, ◌↔◌, ◌≤◌, IfOk, IfSome, IsErr, IsTrue, None, Ok, length};
-ghost use Rattle.link_stream.specs.Items.{HasBadLength, HasWholeItem, IsFrame, IsItem, IsItemBytes};
-ghost use Rattle.link_stream.specs.Items.{IsPart, IsSize, item_bytes, size_in};
+ghost use Rattle.link_stream.specs.Items.{HasBadLength, HasWholeItem, IsFrame, IsPart, IsSize};
+ghost use Rattle.link_stream.specs.Items.{size_in};
 
 use delta_codec::{LEAST_LENGTH, MOST_LENGTH};
 use dots::SharedBytes;
@@ -27,6 +27,13 @@ fn is_size(size: usize) -> bool
     ensures { IsTrue result ↔ IsSize size }
 {
     size == 0 || size >= LEAST_LENGTH && size <= MOST_LENGTH
+}
+
+// Whether an item of this many bytes is a beat.
+pub(crate) fn is_beat(size: usize) -> bool
+    ensures { IsTrue result ↔ size ≡ 4 }
+{
+    size == BEAT.len()
 }
 
 // The number in the first four bytes.
@@ -67,19 +74,4 @@ pub(crate) fn whole_item(bytes: &[u8]) -> Result<Option<usize>, BadLength>
         return Ok(None);
     }
     Ok(Some(4 + size))
-}
-
-impl Item {
-    // The item that these bytes are.
-    pub(crate) fn of(bytes: SharedBytes) -> Item
-        requires { IsItemBytes bytes }
-        ensures bytes { item_bytes result ≡ bytes }
-        ensures within { IsItem result }
-    {
-        if bytes.as_slice().len() == 4 {
-            drop(bytes);
-            return Item::Beat;
-        }
-        Item::Frame(bytes)
-    }
 }

@@ -1,16 +1,33 @@
 ghost use Rattle.std.specs.Prelude.{◌≡◌, ◌⊎◌, ◌↔◌, ◌<◌, [], Bool, Err, IfErr, IfOk, IfSome};
 ghost use Rattle.std.specs.Prelude.{IsErrOf, None, OnErr, OnOk, Ok, Some, false, length, true};
-ghost use Rattle.link_stream.specs.Items.{IsItem, IsPart, item_bytes};
+ghost use Rattle.link_stream.specs.Items.{HasWholeItem, IsItem, IsPart, item_bytes};
 ghost use Rattle.link_stream.specs.Receiving.{GivesAt, HasRead, IsCause};
-ghost use Rattle.link_stream.specs.Tagged.{TakesTagged};
+ghost use Rattle.link_stream.specs.Tagged.{IsTagFault, TakesTagged};
 
-use crate::item::whole_item;
+use crate::item::{is_beat, whole_item};
 use crate::tagged_bytes::TaggedBytes;
 use crate::{Item, ReceiveFault};
 use ami_text::Source;
 use link_keys::Key;
 use std::alloc::Global;
 use std::marker::Model;
+
+// Takes the whole item of this size that is held first; no memory is needed for a beat. A fault changes nothing. Errors, in order:
+// `WrongTag`, `Exhausted`, `Memory`.
+fn take_item(stream: &mut TaggedBytes, size: usize) -> Result<Item, ReceiveFault>
+    requires { HasWholeItem stream.old.held size }
+    ensures item { IfOk result (λ item. IsItem item
+        × TakesTagged stream.old (item_bytes item) stream.new) }
+    ensures err { OnErr result (stream.new ≡ stream.old) }
+    ensures fault { IfErr result (λ fault. IsTagFault fault stream.old size) }
+{
+    if is_beat(size) {
+        stream.pass(size)?;
+        return Ok(Item::Beat);
+    }
+    let bytes = stream.take(size)?;
+    Ok(Item::Frame(bytes))
+}
 
 // The next item, taken from the front of what is held. `None` where that is less than an item and its tag. A fault changes nothing.
 // Errors, in order: `BadLength`, `WrongTag`, `Exhausted`, `Memory`.
@@ -29,8 +46,8 @@ fn next_held(stream: &mut TaggedBytes) -> Result<Option<Item>, ReceiveFault>
         Ok(Some(size)) => size,
         Err(_) => return Err(ReceiveFault::BadLength),
     };
-    match stream.take(size) {
-        Ok(bytes) => Ok(Some(Item::of(bytes))),
+    match take_item(stream, size) {
+        Ok(item) => Ok(Some(item)),
         Err(fault) => Err(fault),
     }
 }

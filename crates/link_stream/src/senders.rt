@@ -1,6 +1,6 @@
 //! What is sent over a link: items one way, acknowledgements back.
-ghost use Rattle.std.specs.Prelude.{◌≡◌, ◌↔◌, ◌+◌, ◌-◌, ◌^◌, Err, IsErrOf, OnErr, OnOk, false};
-ghost use Rattle.std.specs.Prelude.{true};
+ghost use Rattle.std.specs.Prelude.{◌≡◌, ◌↔◌, ◌++◌, ◌+◌, ◌-◌, ◌^◌, ◌≤◌, Err, IsErrOf, OnErr, OnOk};
+ghost use Rattle.std.specs.Prelude.{false, length, true};
 ghost use Rattle.std.specs.Io.KnownBytes.{Appends};
 ghost use Rattle.ami_text.specs.Devices.{HasTaken};
 ghost use Rattle.link_stream.specs.Items.{IsFrame, acknowledgement_bytes, beat};
@@ -10,8 +10,9 @@ ghost use Rattle.link_stream.specs.Tagged.{tagged};
 use crate::acknowledgement::bytes_of;
 use crate::item::is_frame;
 use crate::{Acknowledgement, BEAT};
-use ami_text::{Sink, write_all};
-use link_keys::{Key, tag};
+use ami_text::{Failed, Sink, write_all};
+use arrayvec::ArrayVec;
+use link_keys::{Key, TAG_BYTES, tag};
 use std::marker::Model;
 use thiserror::Error;
 
@@ -27,6 +28,56 @@ pub enum SendFault {
     /// The sink failed.
     #[error("the connection failed")]
     Failed,
+}
+
+// The most bytes of an item that is written with its tag in one piece.
+const SMALL_ITEM: usize = 1_008;
+
+// A small item and its tag.
+type Piece = ArrayVec<u8, 1_024>;
+
+// The bytes of a small item, and its tag after them.
+fn piece_of(item: &[u8], tag: &[u8; TAG_BYTES]) -> Piece
+    requires { length item.now ≤ SMALL_ITEM }
+    ensures { result.items ≡ item.now ++ tag.now }
+{
+    let mut piece = Piece::new();
+    let _ = piece.try_extend_from_slice(item);
+    let _ = piece.try_extend_from_slice(tag);
+    piece
+}
+
+// Writes an item and then its tag. `Failed`: the sink failed; it has taken a prefix of them.
+#[tactic(auto, using(crate::proofs::Taken::taken_all, crate::proofs::Taken::taken_before, crate::proofs::Taken::taken_behind))]
+fn write_in_turn<W: Sink>(sink: &mut W, item: &[u8], tag: &[u8; TAG_BYTES]) -> Result<(), Failed>
+    requires { W.failed sink.old ≡ false }
+    ensures written { OnOk result (Appends (W.taken sink.old) (W.taken sink.new)
+        (item.now ++ tag.now)) }
+    ensures works { OnOk result (W.failed sink.new ≡ false) }
+    ensures begun { OnErr result (HasTaken (W.taken sink.old) (W.taken sink.new)
+        (item.now ++ tag.now)) }
+    ensures fails { OnErr result (W.failed sink.new ≡ true) }
+{
+    write_all(sink, item)?;
+    write_all(sink, tag)
+}
+
+// Writes an item and its tag, in one piece if the item is small: then one write carries both, and the peer is woken once. `Failed`: the
+// sink failed; it has taken a prefix of them.
+fn write_both<W: Sink>(sink: &mut W, item: &[u8], tag: &[u8; TAG_BYTES]) -> Result<(), Failed>
+    requires { W.failed sink.old ≡ false }
+    ensures written { OnOk result (Appends (W.taken sink.old) (W.taken sink.new)
+        (item.now ++ tag.now)) }
+    ensures works { OnOk result (W.failed sink.new ≡ false) }
+    ensures begun { OnErr result (HasTaken (W.taken sink.old) (W.taken sink.new)
+        (item.now ++ tag.now)) }
+    ensures fails { OnErr result (W.failed sink.new ≡ true) }
+{
+    if item.len() > SMALL_ITEM {
+        return write_in_turn(sink, item, tag);
+    }
+    let piece = piece_of(item, tag);
+    write_all(sink, piece.as_slice())
 }
 
 // Writes bytes and their tag. `Failed`: the sink failed; it has taken a prefix of them.
@@ -45,13 +96,10 @@ fn write_tagged<W: Sink>(
     ensures fails { OnErr result ((W.failed sink.new ≡ true) × (result ≡ Err SendFault.Failed)) }
 {
     let tag = tag(key, counter, item);
-    if write_all(sink, item).is_err() {
-        return Err(SendFault::Failed);
+    match write_both(sink, item, &tag) {
+        Ok(()) => Ok(()),
+        Err(_) => Err(SendFault::Failed),
     }
-    if write_all(sink, &tag).is_err() {
-        return Err(SendFault::Failed);
-    }
-    Ok(())
 }
 
 // Writes bytes and their tag under the number of those that were sent before, and counts them. Errors, in order: `Exhausted`, and

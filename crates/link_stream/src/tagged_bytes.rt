@@ -1,5 +1,5 @@
 //! Bytes that were read from a stream whose items are followed by their tags.
-ghost use Rattle.std.specs.Prelude.{◌≡◌, ◌⊎◌, ◌↔◌, ◌++◌, ◌+◌, ◌<◌, ◌≤◌, [], IfErr, IfOk, IsErrOf};
+ghost use Rattle.std.specs.Prelude.{◌≡◌, ◌⊎◌, ◌↔◌, ◌++◌, ◌+◌, ◌-◌, ◌^◌, ◌<◌, ◌≤◌, [], IfErr, IfOk, IsErrOf};
 ghost use Rattle.std.specs.Prelude.{IsTrue, OnErr, OnOk, Ok, false, length, take, true};
 ghost use Rattle.std.specs.Io.KnownBytes.{Keeps};
 ghost use Rattle.link_stream.specs.Receiving.{GivesAt, HasRead};
@@ -78,6 +78,55 @@ impl TaggedBytes {
         self.held.append(piece)
     }
 
+    // Whether the first `size` bytes may be taken: they have their tag, and a counter is left. Errors, in order: 1 `WrongTag`; 2
+    // `Exhausted`.
+    fn check(&self, size: usize) -> Result<(), ReceiveFault>
+        requires { size + TAG_BYTES ≤ length self.now.held }
+        ensures right { OnOk result (HasTag self.now.key self.now.taken size self.now.held) }
+        ensures counter { OnOk result (self.now.taken < 2 ^ 64 - 1) }
+        ensures wrong { IsErrOf result ReceiveFault.WrongTag
+            ↔ (HasTag self.now.key self.now.taken size self.now.held → ⊥) }
+        ensures fault { IfErr result (λ fault. IsTagFault fault self.now size) }
+        ensures memory { IsErrOf result ReceiveFault.Memory → ⊥ }
+    {
+        if !has_tag(&self.key, self.taken, self.held.as_slice(), size) {
+            return Err(ReceiveFault::WrongTag);
+        }
+        if self.taken == u64::MAX {
+            return Err(ReceiveFault::Exhausted);
+        }
+        Ok(())
+    }
+
+    // Drops the first `size` bytes, whose tag is right, and the tag, and counts them.
+    fn drop_front(&mut self, size: usize)
+        requires bytes { size + TAG_BYTES ≤ length self.old.held }
+        requires right { HasTag self.old.key self.old.taken size self.old.held }
+        requires counter { self.old.taken < 2 ^ 64 - 1 }
+        ensures { TakesTagged self.old (take size self.old.held) self.new }
+    {
+        self.held.take_front(size);
+        self.held.take_front(TAG_BYTES);
+        self.taken += 1;
+    }
+
+    // Takes the first `size` bytes and their tag from the front of what is held, and returns no copy of them. A fault changes nothing.
+    // Errors, in order: 1 `WrongTag`; 2 `Exhausted`, if no counter is left.
+    pub fn pass(&mut self, size: usize) -> Result<(), ReceiveFault>
+        requires { size + TAG_BYTES ≤ length self.old.held }
+        ensures passed { OnOk result
+            (TakesTagged self.old (take size self.old.held) self.new) }
+        ensures err { OnErr result (self.new ≡ self.old) }
+        ensures wrong { IsErrOf result ReceiveFault.WrongTag
+            ↔ (HasTag self.old.key self.old.taken size self.old.held → ⊥) }
+        ensures fault { IfErr result (λ fault. IsTagFault fault self.old size) }
+        ensures memory { IsErrOf result ReceiveFault.Memory → ⊥ }
+    {
+        self.check(size)?;
+        self.drop_front(size);
+        Ok(())
+    }
+
     // Takes the first `size` bytes and their tag from the front of what is held, and returns these bytes. A fault changes nothing.
     // Errors, in order: 1 `WrongTag`; 2 `Exhausted`, if no counter is left; 3 `Memory`.
     pub fn take(&mut self, size: usize) -> Result<SharedBytes, ReceiveFault>
@@ -89,19 +138,12 @@ impl TaggedBytes {
             ↔ (HasTag self.old.key self.old.taken size self.old.held → ⊥) }
         ensures fault { IfErr result (λ fault. IsTagFault fault self.old size) }
     {
-        let held = self.held.as_slice();
-        if !has_tag(&self.key, self.taken, held, size) {
-            return Err(ReceiveFault::WrongTag);
-        }
-        if self.taken == u64::MAX {
-            return Err(ReceiveFault::Exhausted);
-        }
-        let (item, _) = held.split_at(size);
+        self.check(size)?;
+        let (item, _) = self.held.as_slice().split_at(size);
         let Ok(bytes) = shared_copy(self.alloc, item) else {
             return Err(ReceiveFault::Memory);
         };
-        self.held.take_front(size + TAG_BYTES);
-        self.taken += 1;
+        self.drop_front(size);
         Ok(bytes)
     }
 

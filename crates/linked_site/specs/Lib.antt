@@ -1,3 +1,4 @@
+pub mod Cards
 pub mod LaunchFaults
 pub mod LinkedJournals
 pub mod Tasks

@@ -15,7 +15,7 @@ mod stored_working;
 mod tasks;
 mod working;
 
-pub use link_settings::{LinkSettings, MOST_PEERS};
+pub use link_settings::LinkSettings;
 pub use linked_site_fault::LinkedSiteFault;
 pub use serving::{JOURNAL_STEPS, serve_linked_site};
 pub use site_end::{SiteEnd, StoredSiteEnd};

@@ -1,12 +1,10 @@
 ghost use Rattle.std.specs.Prelude.{◌≡◌, ◌≤◌, IfOk, vec_len};
-ghost use Rattle.linked_site.specs.declared.link_settings.TheConstants.{MOST_PEERS};
+ghost use Rattle.dots.specs.declared.limits.TheConstants.{MOST_PEERS};
 
 use crate::LinkedSiteFault;
+use dots::MOST_PEERS;
 use link_keys::Key;
 use std::random::RandomSource;
-
-/// How many peers a site dials at most: its own address may be one of 64.
-pub const MOST_PEERS: usize = 64;
 
 /// How a site is linked: which store it is of, the secret that all sites share, and where its peers are (this project's own).
 #[derive(Drop)]

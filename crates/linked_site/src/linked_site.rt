@@ -1,4 +1,8 @@
 //! What the threads of a linked site share.
+ghost use Rattle.std.specs.Prelude.{◌≡◌, IfOk};
+ghost use Rattle.site_peers.specs.Links.{links_card, links_key};
+ghost use Rattle.linked_site.specs.Cards.{card_of};
+
 use crate::{LinkSettings, LinkedSiteFault};
 use link_hello::{Card, queues_digest};
 use peer_box::BOX_BYTES;
@@ -38,9 +42,21 @@ pub(crate) struct LinkedSite {
     pub heard: TcpListener,
 }
 
+// The card of this site: its number and its queues, and the store and the start that its settings name.
+fn card_of(replica: &Replica, links: &LinkSettings) -> Card
+    ensures { result ≡ card_of replica.now links.now }
+{
+    Card {
+        number: replica.site().number() as u8,
+        store: links.store,
+        starts: links.starts,
+        queues: queues_digest(replica.list()),
+    }
+}
+
 impl LinkedSite {
-    // What the threads of this site share, which accepts clients and links at these listeners. Errors, in order: `NoAddress`, `Memory`;
-    // all is dropped then.
+    // What the threads of this site share, which accepts clients and links at these listeners. It shows its card in its hellos. Errors,
+    // in order: `NoAddress`, `Memory`; all is dropped then.
     pub fn new(
         alloc: Global,
         settings: &ClientSettings<'_>,
@@ -48,7 +64,10 @@ impl LinkedSite {
         replica: &Replica,
         clients: TcpListener,
         heard: TcpListener,
-    ) -> Result<LinkedSite, LinkedSiteFault> {
+    ) -> Result<LinkedSite, LinkedSiteFault>
+        ensures card { IfOk result (λ site. links_card site.links ≡ card_of replica.now links) }
+        ensures key { IfOk result (λ site. links_key site.links ≡ links.key) }
+    {
         let own = match heard.local_addr() {
             Ok(own) => own,
             Err(error) => {
@@ -67,20 +86,9 @@ impl LinkedSite {
             bell: SiteBell::new(),
             clients,
         };
-        let site = replica.site();
-        let LinkSettings {
-            key,
-            store,
-            starts,
-            peers,
-        } = links;
-        let card = Card {
-            number: site.number() as u8,
-            store,
-            starts,
-            queues: queues_digest(replica.list()),
-        };
-        match PeerLinks::new(alloc, site, card, key, own, ring, peers, BOX_BYTES) {
+        let card = card_of(replica, &links);
+        let LinkSettings { key, peers, .. } = links;
+        match PeerLinks::new(alloc, card, key, own, ring, peers, BOX_BYTES) {
             Ok(links) => Ok(LinkedSite { links, heard }),
             Err(_) => {
                 drop(heard);

@@ -66,7 +66,7 @@ fn run_site<
 }
 
 /// Serves Manager clients of a site at one listener, and links it to the sites of other processes: it accepts their links at the other
-/// listener, and dials each peer. At most `settings.session.places` clients are answered at once; further ones wait, in order. Each answer
+/// listener, and dials each peer. At most `settings.session.places` clients are answered at once; further ones wait, in order. Each change
 /// rings the site's bell, and the site then sends its changes to all peers that are connected. Each peer gets a frame of all that the site
 /// knows when it connects. The steps of the site's journal are dropped when there are 1,000, and when they keep more than 64 MiB.
 ///

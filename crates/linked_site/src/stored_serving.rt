@@ -88,6 +88,44 @@ where
     }
 }
 
+// What a site over its store is launched with. Errors, in order: those of `LinkedSite::new`; `Memory`. All is dropped then.
+fn site_of<D: StepStore>(
+    alloc: Global,
+    settings: &ClientSettings<'_>,
+    links: LinkSettings,
+    replica: Replica,
+    store: D,
+    clients: TcpListener,
+    heard: TcpListener,
+) -> Result<StoredSiteTasks<D, LinkedSite, LinkedTask>, LinkedSiteFault>
+    ensures replica { IfOk result (λ site. site.replica ≡ replica) }
+    ensures store { IfOk result (λ site. site.store ≡ store) }
+{
+    let peers = links.peers.len();
+    let shared = match LinkedSite::new(alloc, settings, links, &replica, clients, heard) {
+        Ok(shared) => shared,
+        Err(fault) => {
+            drop(replica);
+            drop(store);
+            return Err(fault);
+        }
+    };
+    match tasks_of(alloc, settings.session.places, peers, true) {
+        Ok(tasks) => Ok(StoredSiteTasks {
+            replica,
+            store,
+            shared,
+            tasks,
+        }),
+        Err(_) => {
+            drop(replica);
+            drop(store);
+            drop(shared);
+            Err(LinkedSiteFault::Memory)
+        }
+    }
+}
+
 /// Serves a site with a store as `serve_linked_site` serves one without. `replica` is the site as its store has it, and `store` has no
 /// step since. Clients are answered once a frame of each peer was taken, or after 4 seconds. No reply leaves before the step that it
 /// answers for is durable, and no frame before its cut is. What the site takes from peers is saved 50 ms after the save before. Once the
@@ -126,30 +164,6 @@ where
     ensures lost { IfOk result (λ end. end.store ≡ None
         → end.fault ≡ Some CommitFault.Other) }
 {
-    let peers = links.peers.len();
-    let shared = match LinkedSite::new(alloc, settings, links, &replica, clients, heard) {
-        Ok(shared) => shared,
-        Err(fault) => {
-            drop(replica);
-            drop(store);
-            return Err(fault);
-        }
-    };
-    match tasks_of(alloc, settings.session.places, peers, true) {
-        Ok(tasks) => {
-            let site = StoredSiteTasks {
-                replica,
-                store,
-                shared,
-                tasks,
-            };
-            run_site(rt, alloc, site)
-        }
-        Err(_) => {
-            drop(replica);
-            drop(store);
-            drop(shared);
-            Err(LinkedSiteFault::Memory)
-        }
-    }
+    let site = site_of(alloc, settings, links, replica, store, clients, heard)?;
+    run_site(rt, alloc, site)
 }

@@ -25,8 +25,8 @@ const LOOKS: u32 = 80;
 
 const LOOK_MILLIS: u64 = 50;
 
-// Waits until frames of as many sites were taken as it dials peers, itself not counted, for at most 4 seconds, or until the site
-// ends. So a site whose store is an older copy mostly finds that out before it makes adds anew that its store lacks.
+// Waits until a frame of each peer was taken that the site dials, itself not counted, for at most 4 seconds, or until the site ends. So
+// a site whose store is an older copy mostly finds that out before it makes adds anew that its store lacks.
 fn await_peers<R: Wait + Clock>(rt: &R, site: &LinkedSite) {
     let pause = Duration::from_millis(LOOK_MILLIS);
     for _ in 0..LOOKS {
@@ -36,7 +36,7 @@ fn await_peers<R: Wait + Clock>(rt: &R, site: &LinkedSite) {
     }
 }
 
-// Answers the clients of a site by this pass, as `answer` does, once `await_peers` has returned. Each answer rings the site's
+// Answers the clients of a site by this pass, as `answer` does, once `await_peers` has returned. Each change rings the site's
 // bell, and its reply leaves once its step is durable. Gives the pass back.
 fn answer_by<
     D: StepStore,

@@ -1,9 +1,8 @@
 //! What the threads of a linked site do.
 ghost use Rattle.std.specs.Prelude.{◌≡◌, ◌≤◌, IfOk, vec_capacity, vec_len};
 ghost use Rattle.linked_site.specs.Tasks.{tasks_for};
-ghost use Rattle.linked_site.specs.declared.link_settings.TheConstants.{MOST_PEERS};
+ghost use Rattle.dots.specs.declared.limits.TheConstants.{MOST_PEERS};
 
-use crate::MOST_PEERS;
 use dots::Memory;
 use serving_clients::{PlaceCount, answering_threads};
 use site_peers::EndReason;

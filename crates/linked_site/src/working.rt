@@ -134,7 +134,7 @@ pub(crate) fn hear<
     keeping.into_inner()
 }
 
-// Answers the clients of a site without a store by this pass, as `answer` does. Each answer rings the site's bell. Gives the pass back.
+// Answers the clients of a site without a store by this pass, as `answer` does. Each change rings the site's bell. Gives the pass back.
 fn answer_by<L: SiteLedger, R: Net<Listener = TcpListener, Stream = TcpStream> + Wait + Clock>(
     rt: &R,
     alloc: Global,

@@ -1,5 +1,6 @@
 pub mod Frames
 pub mod Items
+pub mod Losses
 pub mod ReceivedItems
 pub mod Results
 pub mod Spreads

@@ -172,8 +172,8 @@ fn send_from_queue<R: Wait + Clock + RandomSource, G: Ring<R> + Drop>(
     fault
 }
 
-// Dials once, and runs the link until it falls. That it is up is logged. The stream is closed, gently if this site has refused the peer.
-// Returns whether there was a link, and why there is none any more.
+// Dials once, and runs the link until it falls. When it is up the peer's number is noted, and it is logged. The stream is closed, gently if
+// this site has refused the peer. Returns whether there was a link, and why there is none any more.
 fn dial_once<
     R: Net<Listener = TcpListener, Stream = TcpStream> + Wait + Clock + RandomSource,
     G: Ring<R> + Drop,
@@ -192,6 +192,8 @@ fn dial_once<
             return (false, fault);
         }
     };
+    peer.number
+        .store(u64::from(site.number()), Ordering::SeqCst);
     log.log_up(rt, site, peer.address.as_str());
     let fault = send_from_queue(rt, alloc, links, log, peer, &stream, keys);
     drop(stream);

@@ -109,9 +109,9 @@ fn take_each<R: Wait, P: Port<R>, S: Source + Drop, A: Acknowledge<R> + Drop, K:
     unreachable!()
 }
 
-// Lets the site take the frames of a link, as `take_each` does, until it ends or a take is refused, which the peer is sent. A link ends
-// over which nothing comes for 4 seconds. Returns why it ended. `NotPrepared`: nothing was read, since the clock or the stream's time
-// limit failed.
+// Lets the site take the frames of a link, as `take_each` does, until it ends or a take is refused, which the peer is sent unless the
+// site's store has failed. A link ends over which nothing comes for 4 seconds. Returns why it ended. `NotPrepared`: nothing was read, since
+// the clock or the stream's time limit failed.
 pub(crate) fn hear_frames<R: Wait + Clock, G: Drop, P: Port<R>>(
     rt: &R,
     alloc: Global,
@@ -154,13 +154,17 @@ pub(crate) fn hear_frames<R: Wait + Clock, G: Drop, P: Port<R>>(
     end_of(inlet, fault)
 }
 
-// Why a link has ended whose pump has ended by this fault of the port: `Refused`, which the peer is sent too. Without a fault: `Inlet`,
-// with the inlet's own.
+// Why a link has ended whose pump has ended by this fault of the port: `StoreFailed` if a step wasn't saved, which says nothing of the
+// frame; else `Refused`, which the peer is sent too. Without a fault: `Inlet`, with the inlet's own.
 fn end_of(
     inlet: LinkInlet<StdSource<&TcpStream>, StreamAcknowledger<'_>>,
     fault: Option<DeskFault>,
 ) -> HearFault {
     match fault {
+        Some(DeskFault::Unsaved) => {
+            drop(inlet);
+            HearFault::StoreFailed
+        }
         Some(fault) => {
             let mut acknowledger = inlet.into_acknowledger();
             acknowledger.refuse();

@@ -73,16 +73,12 @@ impl HeardLinks {
         set(&mut self.known.lock(rt).taken, site, true);
     }
 
-    // Of how many sites a frame was taken.
-    pub fn taken_count<R: Wait>(&self, rt: &R) -> usize {
-        let known = self.known.lock(rt);
-        let mut count: usize = 0;
-        for taken in &known.taken {
-            if *taken {
-                count = count.saturating_add(1);
-            }
+    // Whether a frame of the site of this number was taken.
+    pub fn has_taken<R: Wait>(&self, rt: &R, number: u64) -> bool {
+        match self.known.lock(rt).taken.get(number as usize) {
+            Some(has_taken) => *has_taken,
+            None => false,
         }
-        count
     }
 
     // Notes whether this site is behind that one. Returns whether that is news.

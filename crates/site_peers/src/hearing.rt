@@ -41,6 +41,9 @@ pub enum HearFault {
     /// The site refuses a frame.
     #[error("frame refused: {0}")]
     Refused(DeskFault),
+    /// The site's store has failed.
+    #[error("the store has failed")]
+    StoreFailed,
 }
 
 // Waits for the next connection. Where the system fails to accept, that is logged once a call, and tried again every 20 ms; an aborted
@@ -128,7 +131,7 @@ fn is_refusal(fault: HearFault) -> bool {
     match fault {
         HearFault::Hello(fault) => is_own_refusal(fault),
         HearFault::Refused(_) => true,
-        HearFault::NotPrepared | HearFault::Inlet(_) => false,
+        HearFault::NotPrepared | HearFault::Inlet(_) | HearFault::StoreFailed => false,
     }
 }
 

@@ -1,9 +1,9 @@
 ghost use Rattle.std.specs.Prelude.{◌≡◌, IfOk, vec_len};
-ghost use Rattle.site_peers.specs.Links.{peer_count};
+ghost use Rattle.site_peers.specs.Links.{links_card, links_key, peer_count};
 
 use crate::heard_links::HeardLinks;
 use crate::{EndReason, Ending, LinkLog, SharedOutbox, SharedQueue, SharedRoll};
-use dots::{Memory, SiteId};
+use dots::Memory;
 use link_hello::Card;
 use link_keys::Key;
 use std::alloc::Global;
@@ -14,6 +14,9 @@ use std::time::Duration;
 
 // How long a connection to the site's own port may take, in milliseconds.
 const WAKE_MILLIS: u64 = 200;
+
+// No site has this number.
+const NO_NUMBER: u64 = u64::MAX;
 
 /// What wakes and ends the thread that makes a site's frames (this project's own).
 pub trait Ring<R> {
@@ -29,6 +32,8 @@ pub trait Ring<R> {
 pub(crate) struct Peer {
     pub address: String,
     pub queue: SharedQueue,
+    // Its number, once a link to it was up; before, `NO_NUMBER`.
+    pub number: AtomicU64,
     // 1 if it is known to be the site itself, else 0.
     pub itself: AtomicU64,
 }
@@ -36,7 +41,6 @@ pub(crate) struct Peer {
 /// What the threads of a site share for its links: who the site is, the peers that it dials, what waits for them, and whether it ends.
 #[derive(Drop)]
 pub struct PeerLinks<G: Drop> {
-    pub(crate) site: SiteId,
     pub(crate) card: Card,
     pub(crate) key: Key,
     // The address at which the site accepts links.
@@ -62,6 +66,7 @@ fn peers_of(alloc: Global, addresses: Vec<String>, limit: usize) -> Result<Vec<P
         let peer = Peer {
             address,
             queue: SharedQueue::new(alloc, limit),
+            number: AtomicU64::new(NO_NUMBER),
             itself: AtomicU64::new(0),
         };
         if peers.push(peer).is_err() {
@@ -96,12 +101,11 @@ fn parts_of(
 }
 
 impl<G: Drop> PeerLinks<G> {
-    /// What is shared by the threads of a site that accepts links at `own` and dials these addresses, each a host and a port. At most
-    /// `limit` bytes of frames wait for each peer, beside a whole. `key` is that of the secret. Error: `Memory`; all is dropped then, the
-    /// bell too.
+    /// What is shared by the threads of a site that accepts links at `own` and dials these addresses, each a host and a port. `card` is
+    /// what it shows in its hellos, and `key` that of the secret. At most `limit` bytes of frames wait for each peer, beside a whole. Error:
+    /// `Memory`; all is dropped then, the bell too.
     pub fn new(
         alloc: Global,
-        site: SiteId,
         card: Card,
         key: Key,
         own: SocketAddr,
@@ -109,7 +113,9 @@ impl<G: Drop> PeerLinks<G> {
         addresses: Vec<String>,
         limit: usize,
     ) -> Result<PeerLinks<G>, Memory>
-        ensures { IfOk result (λ links. peer_count links ≡ vec_len addresses) }
+        ensures card { IfOk result (λ links. links_card links ≡ card) }
+        ensures key { IfOk result (λ links. links_key links ≡ key) }
+        ensures peers { IfOk result (λ links. peer_count links ≡ vec_len addresses) }
     {
         let (peers, heard) = match parts_of(alloc, addresses, limit) {
             Ok(parts) => parts,
@@ -120,7 +126,6 @@ impl<G: Drop> PeerLinks<G> {
             }
         };
         Ok(PeerLinks {
-            site,
             card,
             key,
             own,
@@ -141,21 +146,16 @@ impl<G: Drop> PeerLinks<G> {
         self.peers.len()
     }
 
-    /// Of how many sites a frame was taken since the launch. The first frame of a link is a whole.
-    pub fn taken_count<R: Wait>(&self, rt: &R) -> usize {
-        self.heard.taken_count(rt)
-    }
-
-    /// Whether it dials more peers than there are sites of which a frame was taken since the launch. A peer that has turned out to be the
-    /// site itself doesn't count.
+    /// Whether it dials a peer of which it has taken no frame since the launch; the first frame of a link is a whole. A peer to which no link
+    /// was up counts, since its number isn't known. One that has turned out to be the site itself doesn't.
     pub fn awaits_peers<R: Wait>(&self, rt: &R) -> bool {
-        let mut others: usize = 0;
         for peer in &self.peers {
-            if peer.itself.load(Ordering::SeqCst) == 0 {
-                others = others.saturating_add(1);
+            let is_other = peer.itself.load(Ordering::SeqCst) == 0;
+            if is_other && !self.heard.has_taken(rt, peer.number.load(Ordering::SeqCst)) {
+                return true;
             }
         }
-        self.taken_count(rt) < others
+        false
     }
 
     /// Whether the site ends, and why.

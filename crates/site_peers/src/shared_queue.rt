@@ -86,12 +86,15 @@ impl<'a, R: Wait> Outbox<R> for SharedOutbox<'a> {
 
     ghost handed = { λ old receipt wants new. ⊤ };
 
-    // Hands it to the queue under its lock, and wakes the thread of the link.
+    // Hands it to the queue under its lock, and wakes the thread of the link if that has something to take.
     fn hand(&mut self, rt: &R, made: &MadeFrame<'_>) -> bool {
         let mut queue = self.queue.queue.lock(rt);
         let wants = Outbox::<R>::hand(&mut *queue, rt, made);
+        let is_idle = queue.is_idle();
         drop(queue);
-        self.queue.changed.notify_all();
+        if !is_idle {
+            self.queue.changed.notify_all();
+        }
         wants
     }
 }

@@ -2,15 +2,13 @@
 ghost use Rattle.std.specs.Prelude.{◌≡◌, ◌+◌, ◌<◌, ◌≤◌, IfOk, OnErr, false, length};
 ghost use Rattle.std.specs.Io.KnownBytes.{Keeps, WriteAppends};
 
+use crate::stream_ends::WRITE_WAITS;
 use crate::{Window, WindowFault};
 use ami_text::{Failed, Sink};
 use link_stream::ReceiveFault;
 use std::io::{ErrorKind, Write};
 use std::sync::Wait;
 use thiserror::Error;
-
-// How often a write may wait, each time for as long as its writer lets it.
-const WRITE_WAITS: u32 = 40;
 
 // How often a write is tried that is interrupted.
 const WRITE_TRIES: u32 = 1_000;

@@ -14,7 +14,7 @@ mod service_fault;
 mod serving;
 
 pub use addresses::Listeners;
-pub use linked_site::{EndReason, MOST_PEERS};
+pub use linked_site::EndReason;
 pub use linking::{serve_linked_file, serve_volatile};
 pub use links::LinkedRequest;
 pub use service_fault::ServiceFault;

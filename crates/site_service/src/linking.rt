@@ -25,6 +25,22 @@ use std::sync::{Arc, Wait};
 use std::thread::Threads;
 use std::time::Clock;
 
+// How the clients of a site are served: by the sessions of its request, for this number of connections, or any number.
+fn clients_of<'a>(
+    request: &LinkedRequest<'a>,
+    sessions: Option<u32>,
+    events: &'a Arc<EventLog, Global>,
+) -> ClientSettings<'a>
+    ensures session { result.session.now ≡ request.now.session.now }
+    ensures connections { result.connections ≡ sessions }
+{
+    ClientSettings {
+        session: request.session,
+        connections: sessions,
+        events,
+    }
+}
+
 // The site whose store is this file, which is made if it is missing, and how it is linked. Errors, in order: those of `open_site`;
 // `Memory`, and the store is closed.
 fn linked_file<D: StoreInFile, R: Wait>(
@@ -148,11 +164,7 @@ where
         drop(links);
         return Err(fault);
     }
-    let settings = ClientSettings {
-        session: request.session,
-        connections: sessions,
-        events,
-    };
+    let settings = clients_of(request, sessions, events);
     match serve_file::<R, D>(rt, host.alloc(), &settings, file, links, listeners) {
         Ok(reason) => Ok(reason),
         Err(fault) => Err(ServiceFault::Linked(fault)),
@@ -259,11 +271,7 @@ pub fn serve_volatile<
         drop(links);
         return Err(fault);
     }
-    let settings = ClientSettings {
-        session: request.session,
-        connections: sessions,
-        events,
-    };
+    let settings = clients_of(request, sessions, events);
     match serve_new(rt, alloc, &settings, replica, links, listeners) {
         Ok(reason) => Ok(reason),
         Err(fault) => Err(ServiceFault::Linked(fault)),

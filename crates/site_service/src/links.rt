@@ -1,10 +1,10 @@
 //! How a site is linked.
 ghost use Rattle.std.specs.Prelude.{◌≡◌, ◌≤◌, IfOk, length, map, string_bytes, vec_len};
-ghost use Rattle.linked_site.specs.declared.link_settings.TheConstants.{MOST_PEERS};
+ghost use Rattle.dots.specs.declared.limits.TheConstants.{MOST_PEERS};
 
-use dots::{Memory, SiteId};
+use dots::{MOST_PEERS, Memory, SiteId};
 use link_keys::Key;
-use linked_site::{LinkSettings, LinkedSiteFault, MOST_PEERS};
+use linked_site::{LinkSettings, LinkedSiteFault};
 use replica::QueueList;
 use serving_clients::SessionSettings;
 use std::alloc::Global;

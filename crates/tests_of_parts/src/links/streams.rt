@@ -203,7 +203,7 @@ fn a_sink_and_a_source_fail_in_the_middle(rt: HostRuntime) {
     let mut sink = MemorySink::failing(alloc, 5, 2);
     let mut sender = ItemSender::new(key(&rt, ITEM_KEY));
     assert!(rt; sender.send_beat(&mut sink) == Err(SendFault::Failed));
-    assert_bytes(&rt, alloc, sink.as_slice(), "0000000040fa884b39");
+    assert_bytes(&rt, alloc, sink.as_slice(), "0000000040fa884b3979");
     drop(sender);
     drop(sink);
 

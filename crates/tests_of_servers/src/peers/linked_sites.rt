@@ -298,7 +298,7 @@ fn launch_of(
         bell: SiteBell::new(),
     };
     let key = Key::of_secret(b"correct horse battery staple 123");
-    let links = PeerLinks::new(alloc, site, card, key, own, bell, addresses, 1_048_576);
+    let links = PeerLinks::new(alloc, card, key, own, bell, addresses, 1_048_576);
     let shared = Shared {
         links: links.expect(rt, "memory"),
         listener,
