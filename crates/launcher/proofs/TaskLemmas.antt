@@ -1,9 +1,7 @@
 -- Tasks that are done: one more.
-use Rattle.std.proofs.Common.{◌≡◌, ◌∙◌, ℕ, List, [], ◌∷◌, ◌++◌, Some, length, length-append, slice_get, sym, ap, subst, ⊎_elim, arith}
+use Rattle.std.proofs.Common.{◌≡◌, ◌∙◌, ℕ, List, [], ◌∷◌, ◌++◌, Some, length, length-append, slice_get, sym, subst, ⊎_elim, arith}
 use Rattle.std.proofs.lemmas.Option.{same_Some, slice_get_within}
-use Rattle.launcher.specs.Promises.{IsTaskPromised}
 use Rattle.launcher.specs.Tasks.{HaveDone}
-use Rattle.launcher.specs.declared.tasks.TaskPromise.{TaskPromise}
 use Rattle.launcher.proofs.PlaceLemmas.{got_push}
 
 -- one task more
@@ -30,11 +28,3 @@ done_push {T} {P} {O} Does tasks old passes all outputs outputs_all task before 
           (got_push outputs output o place there))
           (got_push passes after p place at);
     }))
-
--- a thread that was given a task and its pass promises them
-pub promise_of : {S R T P O W : Type 0} (tasks : List T) (passes : List P) (place : ℕ) (task : T) (pass : P) (made promise : TaskPromise S R T P O W)
-    → promise ≡ made → made.task.value ≡ task → made.pass.value ≡ pass → slice_get tasks place ≡ Some task → slice_get passes place ≡ Some pass → IsTaskPromised tasks passes place promise
-promise_of {S} {R} {T} {P} {O} {W} tasks passes place task pass made promise is task_is pass_is at pass_at = record {
-  task_is = at ∙ ap Some (sym (ap (λ (p : TaskPromise S R T P O W). p.task.value) is ∙ task_is));
-  pass_is = pass_at ∙ ap Some (sym (ap (λ (p : TaskPromise S R T P O W). p.pass.value) is ∙ pass_is));
-}

@@ -39,10 +39,11 @@ impl<S, R, T, P, O, W: Workplace<S, R, T, P, O>> Promise<TaskEnd<P, O>>
         W.does promise.task.value promise.pass.value output end.pass) };
 }
 
+// The thread of a task.
+type Worker<S, R, T, P, O, W> = PromisedHandle<TaskEnd<P, O>, TaskPromise<S, R, T, P, O, W>>;
+
 // The threads of a site, the last of which does the first task.
-pub(crate) type Workers<S, R, T, P, O, W> = Vec<
-    PromisedHandle<TaskEnd<P, O>, TaskPromise<S, R, T, P, O, W>>,
->;
+pub(crate) type Workers<S, R, T, P, O, W> = Vec<Worker<S, R, T, P, O, W>>;
 
 // Waits until all threads of all sites run, and does a task at this place by this pass. If a site
 // can't begin, drops the task and gives its pass back without an output.
@@ -66,6 +67,48 @@ fn do_task<R: Wait, S, T: Drop, P, O, W: Workplace<S, R, T, P, O>>(
     TaskEnd {
         pass,
         output: Some(output),
+    }
+}
+
+// Starts the thread of a task, which does it by this pass. Fails with `NoThread` if the system can't
+// start it, and then drops the task and the pass.
+fn start_task<
+    's,
+    'e: 's,
+    R: Wait + Sync,
+    S: Sync,
+    T: Send + Drop + 's,
+    P: Send + Drop + 's,
+    O: Send + Drop + 's,
+    W: Workplace<S, R, T, P, O> + Sync + 's,
+>(
+    scope: &'s Scope<'s, &'e ()>,
+    rt: &'s R,
+    alloc: Global,
+    start: &'s Start,
+    shared: &'s S,
+    place: &'s W,
+    task: T,
+    pass: P,
+) -> Result<Worker<S, R, T, P, O, W>, SiteFault>
+    ensures task { IfOk result (λ worker. worker.promise.task.value ≡ task) }
+    ensures pass { IfOk result (λ worker. worker.promise.pass.value ≡ pass) }
+{
+    let promise = TaskPromise {
+        task: Snapshot::of(&task),
+        pass: Snapshot::of(&pass),
+        place: PhantomData,
+    };
+    let job = move || -> TaskEnd<P, O>
+        ensures { MatchOption result.output (result.pass ≡ pass)
+            (λ output. W.does task pass output result.pass) }
+    { do_task(rt, alloc, start, shared, place, task, pass) };
+    match scope.spawn_with(promise, job) {
+        Ok(worker) => Ok(worker),
+        Err(refused) => {
+            drop(refused);
+            Err(SiteFault::NoThread)
+        }
     }
 }
 
@@ -105,22 +148,12 @@ pub(crate) fn start_tasks<
         let Some(pass) = passes.pop() else {
             unreachable!();
         };
-        let promise = TaskPromise {
-            task: Snapshot::of(&task),
-            pass: Snapshot::of(&pass),
-            place: PhantomData,
-        };
-        let job = move || -> TaskEnd<P, O>
-            ensures { MatchOption result.output (result.pass ≡ pass)
-                (λ output. W.does task pass output result.pass) }
-        { do_task(rt, alloc, start, shared, place, task, pass) };
-        match scope.spawn_with(promise, job) {
+        match start_task(scope, rt, alloc, start, shared, place, task, pass) {
             Ok(worker) => workers.push_reserved(worker),
-            Err(refused) => {
-                drop(refused);
+            Err(fault) => {
                 drop(passes);
                 drop(tasks);
-                return Err(SiteFault::NoThread);
+                return Err(fault);
             }
         }
     }

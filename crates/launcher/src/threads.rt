@@ -41,9 +41,8 @@ fn room_for<R, S, T, P: Drop, O: Drop, W: Workplace<S, R, T, P, O>>(
     }
 }
 
-// Starts all threads of a site, and joins them. If a thread can't be started no site begins, and the
-// site's other threads end first. At `Memory` the caller lets no site begin, as `launch_sites` does.
-// The errors are those of `run_threads`.
+// Starts all threads of a site, and joins them. If it can't start them all, for lack of memory too, no
+// site begins, and the site's other threads end first. The errors are those of `run_threads`.
 fn run_tasks<
     's,
     'e: 's,
@@ -68,6 +67,7 @@ fn run_tasks<
     let (mut workers, room) = match room_for(alloc, given.tasks.len()) {
         Ok(room) => room,
         Err(_) => {
+            start.fail(rt);
             drop(given);
             return Err(SiteFault::Memory);
         }
@@ -84,11 +84,14 @@ fn run_tasks<
 }
 
 /// Does each of a site's tasks at this place, by the pass of the task's place and in a thread of its
-/// own, and returns when all have ended. No task begins before all threads of all sites run.
+/// own, and returns when all have ended. No task begins before all threads of all sites run: until each
+/// site of `start` has its call, the threads of the others wait. `launch_sites` ends that wait if its
+/// `run` returns an error, also before this call.
 ///
 /// Errors, in order: 1 `Memory`; 2 `NoThread`, if the system could not start a thread; 3 `NotBegun`,
-/// if another site can't have its threads. No task of the site is then done, and all are dropped with
-/// their passes (this project's own). No contract says which error it is.
+/// if another site can't have its threads. After each no site of `start` begins. No task of the site is
+/// then done, and all are dropped with their passes (this project's own). No contract says which error
+/// it is.
 pub fn run_threads<
     R: Threads + Wait + Sync,
     S: Sync,

@@ -8,6 +8,9 @@ use status_report::{Answer, Ask};
 use std::marker::Model;
 use std::sync::Wait;
 
+// How often the site is asked where its journal is full each time.
+const MOST_TRIES: u32 = 100;
+
 /// A desk for sessions that has their asks answered by a pass of a site's desk. Contracts see it as its pass (this project's own).
 #[derive(Drop)]
 pub struct PassDesk<'a, L: SiteLedger> {
@@ -55,8 +58,9 @@ fn answer_by<L: SiteLedger, R: Wait>(
     Ok(answer)
 }
 
-// What the site answers, by this pass. Where its journal is full, the journal's steps are dropped, and the site is asked once more.
-// `DeskDown`: another error of a call, out of memory for the drop, or the journal was full again. The pass then stays as it was.
+// What the site answers, by this pass. Where its journal is full, the journal's steps are dropped, and the site is asked again, 100 times in
+// all, since other threads may have filled it meanwhile. `DeskDown`: another error of a call, out of memory for the drop, or the journal was
+// full each time. The pass then stays as it was.
 fn answer_with_room<L: SiteLedger, R: Wait>(
     rt: &R,
     desk: &SiteDesk<L>,
@@ -67,18 +71,17 @@ fn answer_with_room<L: SiteLedger, R: Wait>(
         AnswersByPass L.site L.names pass.old asked.now answer pass.new) }
     ensures refused { OnErr result (pass.new ≡ pass.old) }
 {
-    match answer_by(rt, desk, pass, asked) {
-        Ok(answer) => return Ok(answer),
-        Err(DeskFault::JournalFull) => {}
-        Err(_) => return Err(DeskDown),
+    for _ in 0..MOST_TRIES {
+        match answer_by(rt, desk, pass, asked) {
+            Ok(answer) => return Ok(answer),
+            Err(DeskFault::JournalFull) => {}
+            Err(_) => return Err(DeskDown),
+        }
+        if desk.checkpoint_if_full(rt).is_err() {
+            return Err(DeskDown);
+        }
     }
-    if desk.checkpoint_if_full(rt).is_err() {
-        return Err(DeskDown);
-    }
-    match answer_by(rt, desk, pass, asked) {
-        Ok(answer) => Ok(answer),
-        Err(_) => Err(DeskDown),
-    }
+    Err(DeskDown)
 }
 
 impl<'a, L: SiteLedger, R: Wait> Desk<R> for PassDesk<'a, L> {
@@ -87,9 +90,9 @@ impl<'a, L: SiteLedger, R: Wait> Desk<R> for PassDesk<'a, L> {
 
     ghost refuses = { λ old asked new. new ≡ old };
 
-    /// The site's answer. Where its journal is full, the journal's steps are dropped, and the site is asked once more.
+    /// The site's answer. Where its journal is full, the journal's steps are dropped, and the site is asked again, 100 times in all.
     ///
-    /// `DeskDown`: out of memory, for the answer or for the drop; or the journal was full again, or is shorter than the pass has seen.
+    /// `DeskDown`: out of memory, for the answer or for the drop; or the journal was full each time, or is shorter than the pass has seen.
     /// The ask was not done, and the pass is as before.
     fn ask(&mut self, rt: &R, asked: Ask) -> Result<Answer, DeskDown> {
         let answered = answer_with_room(rt, self.desk, &mut self.pass, &asked);

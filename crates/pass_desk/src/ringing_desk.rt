@@ -7,7 +7,12 @@ use site_desk::SiteBell;
 use status_report::{Answer, Ask};
 use std::sync::Wait;
 
-/// A desk that rings a site's bell at each answer. What it answers is what its own desk answers (this project's own).
+// The least bytes of a report that rings. 1,000 shorter ones, as many as the journal of a server has steps, keep less than 64 MiB.
+const LARGE_REPORT: usize = 65_536;
+
+/// A desk that rings a site's bell at each answer of its own desk that changes the site, so that the change is sent, and at each report of
+/// 64 KiB or more: the thread that hears the bell limits what the journal keeps. What it answers is what its own desk answers (this
+/// project's own).
 #[derive(Drop)]
 pub struct RingingDesk<'a, D> {
     desk: D,
@@ -15,7 +20,7 @@ pub struct RingingDesk<'a, D> {
 }
 
 impl<'a, D> RingingDesk<'a, D> {
-    /// A desk that rings this bell at each answer of the other desk.
+    /// A desk that rings this bell at answers of the other desk.
     pub fn new(desk: D, bell: &'a SiteBell) -> RingingDesk<'a, D>
         ensures { inner_desk result ≡ desk }
     {
@@ -31,13 +36,22 @@ impl<'a, D> RingingDesk<'a, D> {
     }
 }
 
+// Whether an answer rings.
+fn rings(answer: &Answer) -> bool {
+    match answer {
+        Answer::Done => true,
+        Answer::Refused(_) => false,
+        Answer::Report(report) => report.as_slice().len() >= LARGE_REPORT,
+    }
+}
+
 impl<'a, R: Wait, D: Desk<R>> Desk<R> for RingingDesk<'a, D> {
     ghost answers = { λ old asked answer new.
         D.answers (inner_desk old) asked answer (inner_desk new) };
 
     ghost refuses = { λ old asked new. D.refuses (inner_desk old) asked (inner_desk new) };
 
-    /// The answer of its own desk, at which it rings. If that removed a member, the bell notes it.
+    /// The answer of its own desk, at which it may ring. If that removed a member, the bell notes it.
     ///
     /// `DeskDown`: that desk gives no answer, and nothing rings.
     fn ask(&mut self, rt: &R, asked: Ask) -> Result<Answer, DeskDown> {
@@ -45,8 +59,8 @@ impl<'a, R: Wait, D: Desk<R>> Desk<R> for RingingDesk<'a, D> {
         let answered = self.desk.ask(rt, asked);
         match &answered {
             Ok(Answer::Done) if removes => self.bell.ring_with_room(rt),
-            Ok(_) => self.bell.ring(rt),
-            Err(_) => {}
+            Ok(answer) if rings(answer) => self.bell.ring(rt),
+            _ => {}
         }
         answered
     }

@@ -80,7 +80,7 @@ fn new_sites(
 }
 
 /// Serves sites at once, as many as `settings` says, with the numbers 0, 1 and so on and the queues of `list`, each at its own port. A site
-/// answers as many clients at once as it has places; further ones wait, in order. Each answer rings the site's bell, and the site then sends
+/// answers as many clients at once as it has places; further ones wait, in order. Each change rings the site's bell, and the site then sends
 /// its changes to the others. A site that can't take a frame of another one takes a whole of it later. The steps of a site's journal are
 /// dropped when there are 1,000, and when they keep more than 64 MiB: that is checked before each cut and each take. With a number of
 /// `sessions` each site takes that many connections, answers them, and ends with its journal. Without it the call runs until the program is

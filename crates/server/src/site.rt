@@ -50,11 +50,14 @@ impl Site {
         }
     }
 
-    // Notes at the bells of all sites, its own too, that this site has removed a member.
-    // A bell that doesn't have this site as behind ignores it.
+    // Notes at the bells of its peers that this site has removed a member. A bell that
+    // doesn't have this site as behind ignores it.
     pub fn hurry_peers<R: Wait>(&self, rt: &R) {
-        for bell in &self.bells {
-            bell.hurry(rt, self.number);
+        let own = usize::from(self.number.number());
+        for place in 0..self.bells.len() {
+            if place != own {
+                self.bells[place].hurry(rt, self.number);
+            }
         }
     }
 }

@@ -160,7 +160,6 @@ where
         IsNewStore D.holds D.keeps D.begun start.replica start.store) starts.items }
     requires log { W.failed log.old ≡ false }
     ensures number { IfOk result (λ ends. vec_len ends ≡ settings.now.sites) }
-
     // The outputs stand in the order of the starts.
     ensures each { IfOk result (λ ends.
         HaveServedEnds D.holds D.keeps D.begun starts.items ends.items) }

@@ -68,7 +68,7 @@ impl TaskOutput for StoredSiteTask {
 
 // Answers the clients of a site by this pass, once it has taken or refused a frame of each peer, or after 4 seconds: if they know changes
 // of the site that its store lacks, it mostly ends before it makes a change. It returns when the site takes no more clients or was stopped,
-// as it is if a site of the server has failed. Each answer rings the site's bell, and its reply leaves once its step is durable. The last
+// as it is if a site of the server has failed. Each change rings the site's bell, and its reply leaves once its step is durable. The last
 // such thread ends the bell. Gives the pass back.
 fn answer_by<
     D: StepStore,

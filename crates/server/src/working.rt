@@ -102,7 +102,7 @@ pub(crate) fn answer_over<
     }
 }
 
-// Answers the clients of a site without a store by this pass, as `answer_over` does. Each answer rings the site's bell. Gives the pass
+// Answers the clients of a site without a store by this pass, as `answer_over` does. Each change rings the site's bell. Gives the pass
 // back.
 fn answer_by<L: SiteLedger, R: Net<Listener = TcpListener, Stream = TcpStream> + Wait + Clock>(
     rt: &R,

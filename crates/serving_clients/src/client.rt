@@ -99,7 +99,7 @@ fn close_gently<R: Wait + Clock>(rt: &R, stream: &TcpStream, sent: MessageCount)
 #[derive(Clone, Copy)]
 struct SessionEnd {
     served: Result<(), ServeFault>,
-    // The time that the client has not kept, if there is one.
+    // Why the client is given up, if it is.
     late: Option<Late>,
     // What the client has sent, as far as it was read.
     sent: MessageCount,
@@ -119,6 +119,7 @@ fn event_of(end: SessionEnd, settings: &SessionSettings, left: u64) -> Option<Cl
                 Late::Login => settings.login,
                 Late::Silent => settings.idle.unwrap_or(Duration::ZERO),
                 Late::Reading => settings.write,
+                Late::NoClock => Duration::ZERO,
             };
             Some(ClientEvent::GivenUp(late, time.as_secs()))
         }
@@ -148,24 +149,14 @@ fn end_session<R: Wait + Clock>(
     }
 }
 
-// The time that a client has not kept: that in which it must read, if it was given up for this, or else that of its source. `None`: it has
-// kept both.
-fn late_of(has_given_up: bool, of_source: Option<Late>) -> Option<Late> {
-    if has_given_up {
-        Some(Late::Reading)
-    } else {
-        of_source
-    }
-}
-
 /// Serves a client of a site over a desk: a session of these settings, from its greeting to its end, and then the stream's end. Where the
 /// connection can't be prepared there is no session, the desk stays as it is, and a line is logged.
 ///
 /// It returns once the session has ended, in whichever way. It logs failed logins, sessions that ended with their last try to log in,
-/// clients that have not kept a time, and sessions that ended by another fault than a broken connection; if the log is verbose, logins and
-/// ends too. Unless a write has failed, the write side is then shut down, and what the client still sends is read and dropped, so that it
-/// can read all replies: until it closes, is silent for 0.2 seconds, or 2 seconds are over (sessions are Asterisk's Manager Interface; the
-/// times are this project's own).
+/// clients that have not kept a time or for which the clock can't be read, and sessions that ended by another fault than a broken
+/// connection; if the log is verbose, logins and ends too. Unless a write has failed, the write side is then shut down, and what the client
+/// still sends is read and dropped, so that it can read all replies: until it closes, is silent for 0.2 seconds, or 2 seconds are over
+/// (sessions are Asterisk's Manager Interface; the times are this project's own).
 pub fn answer_client<'x, R: Wait + Clock, D: Desk<R>>(
     rt: &'x R,
     alloc: Global,
@@ -203,7 +194,7 @@ pub fn answer_client<'x, R: Wait + Clock, D: Desk<R>>(
         desk,
         &mut watch,
     );
-    let late = late_of(writer.has_given_up(), reader.late);
+    let late = writer.late.or(reader.late);
     let end = SessionEnd {
         served,
         late,

@@ -9,7 +9,7 @@ use std::net::SocketAddr;
 use std::sync::Wait;
 use std::{fmt, io};
 
-// Which time a client has not kept.
+// Why a client is given up: the time that it has not kept, or that none is known.
 #[derive(Clone, Copy)]
 pub(crate) enum Late {
     // It didn't log in.
@@ -18,6 +18,8 @@ pub(crate) enum Late {
     Silent,
     // It read too little.
     Reading,
+    // The clock can't be read.
+    NoClock,
 }
 
 // A call that prepares a connection, which failed.
@@ -40,7 +42,7 @@ pub(crate) enum ClientEvent {
     // Its session ended with its last try to log in.
     TriesOver,
     Left,
-    // It has not kept a time, in seconds.
+    // It was given up. The number is the time that it has not kept, in seconds.
     GivenUp(Late, u64),
     // Its session ended by a fault. This number of commands followed the last one that was answered.
     Ended(ServeFault, u64),
@@ -67,6 +69,9 @@ impl fmt::Display for ClientEvent {
             }
             ClientEvent::GivenUp(Late::Reading, seconds) => {
                 write!(f, "given up: less than 4096 bytes read in {seconds} s")
+            }
+            ClientEvent::GivenUp(Late::NoClock, _) => {
+                write!(f, "given up: the clock can't be read")
             }
             ClientEvent::Ended(ServeFault::Memory, _) => {
                 write!(

@@ -5,6 +5,7 @@ ghost use Rattle.std.specs.Duration.{as_nanos};
 ghost use Rattle.std.specs.Io.KnownBytes.{WriteAppends};
 ghost use Rattle.std.specs.Time.{instant_nanos};
 
+use crate::client_log::Late;
 use crate::deadlines::time_left;
 use crate::timed_read::{STREAM_TRIES, StreamFault};
 use ami_text::{Failed, Sink};
@@ -80,14 +81,14 @@ impl Waiting {
 }
 
 // A sink over a writer whose writes wait for a short time. A client that is waited for again and again for as long as `limit`, and reads
-// fewer than 4,096 bytes in that time, is given up: the sink fails.
+// fewer than 4,096 bytes in that time, is given up, and one for which the clock can't be read: the sink fails.
 pub(crate) struct ClientSink<'a, R, W> {
     rt: &'a R,
     writer: W,
     limit: Duration,
     waiting: Option<Waiting>,
-    // The client is given up, and the next write fails.
-    is_over: bool,
+    // Why the client is given up, once it is; the next write then fails.
+    pub late: Option<Late>,
     failed: bool,
 }
 
@@ -99,7 +100,7 @@ impl<'a, R, W: Drop> Drop for ClientSink<'a, R, W> {
             writer,
             limit: _,
             waiting: _,
-            is_over: _,
+            late: _,
             failed: _,
         } = self;
         drop(writer);
@@ -136,16 +137,9 @@ impl<'a, R: Clock, W: Write> ClientSink<'a, R, W> {
             writer,
             limit,
             waiting: None,
-            is_over: false,
+            late: None,
             failed: false,
         }
-    }
-
-    // Whether the client was given up.
-    pub fn has_given_up(&self) -> bool
-        ensures { result ≡ self.now.is_over }
-    {
-        self.is_over
     }
 
     // Counts bytes that the client has read. Once they are 4,096 in a stretch it is over; no contract says this.
@@ -158,13 +152,13 @@ impl<'a, R: Clock, W: Write> ClientSink<'a, R, W> {
         }
     }
 
-    // Counts a wait. The client is given up if the stretch has lasted for the limit, or the clock can't be read; no contract says this.
+    // Counts a wait. The client is given up if the clock can't be read, or the stretch has lasted for the limit; no contract says this.
     fn count_wait(&mut self)
         ensures writer { self.new.writer ≡ self.old.writer }
         ensures failed { self.new.failed ≡ self.old.failed }
     {
         let Ok(now) = Instant::now(self.rt) else {
-            self.is_over = true;
+            self.late = Some(Late::NoClock);
             return;
         };
         let waiting = match self.waiting {
@@ -172,7 +166,11 @@ impl<'a, R: Clock, W: Write> ClientSink<'a, R, W> {
             Some(waiting) => waiting.waited(now, self.limit),
         };
         self.waiting = Some(waiting);
-        self.is_over = waiting.has_lasted(self.limit);
+        self.late = if waiting.has_lasted(self.limit) {
+            Some(Late::Reading)
+        } else {
+            None
+        };
     }
 
     // Writes until a write doesn't wait in vain, and returns how many bytes that took. `Failed`: the client is given up, the writer
@@ -195,7 +193,7 @@ impl<'a, R: Clock, W: Write> ClientSink<'a, R, W> {
                 }
                 Err(StreamFault::Late) => {
                     self.count_wait();
-                    if self.is_over {
+                    if self.late.is_some() {
                         return Err(Failed);
                     }
                 }
@@ -214,7 +212,7 @@ impl<'a, R: Clock, W: Write> Sink for ClientSink<'a, R, W> {
     // Writes as `write_in_time` does, but at once `Failed` where the client was given up before. The sink has failed after `Failed`, and
     // where none of bytes that aren't empty was taken.
     fn write(&mut self, bytes: &[u8]) -> Result<usize, Failed> {
-        if self.is_over {
+        if self.late.is_some() {
             self.failed = true;
             return Err(Failed);
         }

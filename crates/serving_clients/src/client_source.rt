@@ -26,7 +26,7 @@ pub(crate) struct ClientSource<'a, 'c, R, S> {
     is_logged_in: &'c Cell<bool>,
     // What it has sent.
     pub sent: MessageCount,
-    // The time that it has not kept, once it has not.
+    // Why it is given up, once it is.
     pub late: Option<Late>,
     ended: bool,
     failed: bool,
@@ -113,8 +113,8 @@ impl<'a, 'c, R: Clock, S: TimedRead> ClientSource<'a, 'c, R, S> {
         }
     }
 
-    // Reads once, and counts the messages that end in what was read. `Failed`: the clock can't be read, the client has not kept a time,
-    // which is then in `late`, or the stream failed.
+    // Reads once, and counts the messages that end in what was read. `Failed`: the client is given up, since the clock can't be read or it
+    // has not kept a time, which is then in `late`; or the stream failed.
     fn read_more(&mut self, piece: &mut [u8]) -> Result<usize, Failed>
         requires { self.old.failed ≡ false }
         ensures count { IfOk result (λ n. n ≤ length piece.new) }
@@ -132,6 +132,7 @@ impl<'a, 'c, R: Clock, S: TimedRead> ClientSource<'a, 'c, R, S> {
         ensures idle { self.new.idle ≡ self.old.idle }
     {
         let Ok(now) = Instant::now(self.rt) else {
+            self.late = Some(Late::NoClock);
             self.failed = true;
             return Err(Failed);
         };

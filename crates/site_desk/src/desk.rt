@@ -267,9 +267,9 @@ impl<L: SiteLedger> SiteDesk<L> {
         released(dropped)
     }
 
-    /// Drops the steps of the journal if no step may be added, as `checkpoint` does, so that of several threads that find it full one
-    /// alone does so. Returns whether it did; no contract says this. After 2^40 steps in all the journal stays full, and each call
-    /// drops the steps. Fails only when out of memory, and then drops none.
+    /// Drops the steps of the journal if that makes room for a step, as `checkpoint` does, so that of several threads that find it full
+    /// one alone does so. Returns whether it did; no contract says this. After 2^40 steps in all the journal stays full, and no call
+    /// drops any. Fails only when out of memory, and then drops none.
     pub fn checkpoint_if_full<R: Wait>(&self, rt: &R) -> Result<bool, Memory> {
         let dropped = self.lock.lock(rt).checkpoint_if_full();
         released(dropped)

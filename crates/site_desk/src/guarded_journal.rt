@@ -14,7 +14,7 @@ ghost use Rattle.site_desk.specs.Passes.{HasDone, IsOfAsk, IsRewound, last_recei
 ghost use Rattle.site_desk.specs.Passes.{step_of};
 
 use crate::{Pass, SiteLedger};
-use dots::Memory;
+use dots::{MOST_COUNT, Memory};
 use site_journal::{
     DecodeFault, DecodedFrame, DeskFault, DroppedSteps, Journaled, Receipt, Step, StepDeed,
     TakeFault,
@@ -338,16 +338,17 @@ impl<L: SiteLedger> GuardedJournal<L> {
         Ok(Some(dropped))
     }
 
-    /// Drops the journal's steps if no step may be added, and returns the memory of what it dropped; else `None`. A journal of 2^40
-    /// steps in all stays full. Fails only when out of memory, and then drops none.
+    /// Drops the journal's steps if that makes room for a step, and returns the memory of what it dropped. `None`: a step may be added
+    /// already, or 2^40 were done in all, and the journal stays full. Fails only when out of memory, and then drops none.
     pub fn checkpoint_if_full(&mut self) -> Result<Option<DroppedSteps>, Memory>
-        ensures full { IfOk result (λ dropped. IsSome dropped ↔ IsFull self.old) }
+        ensures full { IfOk result (λ dropped. IsSome dropped
+            ↔ (IsFull self.old × (self.old.count < MOST_COUNT))) }
         ensures done { IfOk result (λ dropped. MatchOption dropped
             (self.new ≡ self.old)
             (λ _. HasDropped self.old self.new)) }
         ensures unchanged { OnErr result (self.new ≡ self.old) }
     {
-        if !self.journal.is_full() {
+        if !self.journal.is_full() || self.journal.count() >= MOST_COUNT {
             return Ok(None);
         }
         let dropped = self.checkpoint()?;

@@ -1,4 +1,4 @@
-//! The bell of a site: each answer rings it, and the thread that sends hears it. Sites whose peers share it also ask by it for wholes.
+//! The bell of a site: each change rings it, and the thread that sends hears it. Sites whose peers share it also ask by it for wholes.
 ghost use Rattle.std.specs.Prelude.{◌≡◌, ◌<◌, ◌+◌, ◌-◌, ◌^◌, ◌↔◌, IsFalse, IsTrue, MatchBool, false, min, true};
 
 use dots::SiteId;

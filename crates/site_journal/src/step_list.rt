@@ -46,10 +46,10 @@ impl StepList {
         self.steps.push_reserved(step);
     }
 
-    // Takes all steps out and returns them, none dropped; no contract says what is
-    // returned. Takes no memory.
+    // Takes all steps out and returns them; the list has none then. Takes no memory.
     pub fn take_all(&mut self) -> Vec<Step>
-        ensures { self.new.steps.items ≡ [] }
+        ensures taken { result.items ≡ self.old.steps.items }
+        ensures none { self.new.steps.items ≡ [] }
     {
         let none = Vec::new(*self.steps.allocator());
         self.payload_bytes = 0;

@@ -16,6 +16,7 @@ mod step_store;
 mod stored_desk;
 mod stored_ledger;
 mod stored_port;
+mod turns;
 mod vault;
 
 pub use history::NewHistory;

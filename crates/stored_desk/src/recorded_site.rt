@@ -13,6 +13,7 @@ ghost use Rattle.stored_desk.specs.Recorded.{IsGroupOfRest, IsLegalHistory, IsRe
 
 use crate::done::{Done, record, record_take};
 use crate::history::{HistoryPrefix, HistoryWriter};
+use crate::turns::Turn;
 use crate::{StepStore, StoredLedger};
 use dots::{Memory, SharedBytes};
 use replica::Replica;
@@ -31,6 +32,8 @@ pub(crate) struct RecordedSite<L: StoredLedger> {
     is_lost: bool,
     // How many bytes the journal's steps kept beside themselves when they were last taken for a commit.
     taken_bytes: u64,
+    // The turn of the steps that are done now. It ends when steps are taken for a commit.
+    turn: Turn,
 }
 
 impl<L: StoredLedger> Model for RecordedSite<L> {
@@ -72,6 +75,7 @@ impl<L: StoredLedger> RecordedSite<L> {
             writer,
             is_lost: false,
             taken_bytes: 0,
+            turn: Turn::First,
         }
     }
 
@@ -98,6 +102,11 @@ impl<L: StoredLedger> RecordedSite<L> {
     // How many bytes the steps keep beside themselves that were done since steps were last taken for a commit. No contract says how many.
     pub fn untaken_bytes(&self) -> u64 {
         self.payload_bytes().saturating_sub(self.taken_bytes)
+    }
+
+    // The turn of the steps that are done now, and after the steps are taken the next one. No contract says which.
+    pub fn turn(&self) -> Turn {
+        self.turn
     }
 
     // The fault of a call that fails with `fault` unless the journal refuses it before: 1 `Rewound`, where the journal is shorter than the
@@ -267,7 +276,7 @@ impl<L: StoredLedger> RecordedSite<L> {
         }
     }
 
-    // Does as `rest`, with its faults, and notes that these steps are taken for a commit.
+    // Does as `rest`, with its faults, and notes that these steps are taken for a commit: their turn ends.
     fn take_rest<S: StepStore>(
         &mut self,
         store: &S,
@@ -282,6 +291,7 @@ impl<L: StoredLedger> RecordedSite<L> {
     {
         let rest = self.rest(store, saved)?;
         self.taken_bytes = self.payload_bytes();
+        self.turn = self.turn.next();
         Ok(rest)
     }
 
@@ -306,8 +316,8 @@ impl<L: StoredLedger> RecordedSite<L> {
         }
     }
 
-    // Does as `rest`, and drops the journal's steps. Faults, in order: 1 those of `rest`; 2 `Memory`, where there is none for the drop. A
-    // fault changes nothing.
+    // Does as `rest`, and drops the journal's steps; their turn ends. Faults, in order: 1 those of `rest`; 2 `Memory`, where there is none
+    // for the drop. A fault changes nothing.
     fn take_all<S: StepStore>(
         &mut self,
         store: &S,
@@ -327,6 +337,7 @@ impl<L: StoredLedger> RecordedSite<L> {
             drop(rest);
             return Err(fault);
         }
+        self.turn = self.turn.next();
         Ok(rest)
     }
 

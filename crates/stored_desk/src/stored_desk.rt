@@ -11,6 +11,7 @@ use crate::done::Done;
 use crate::mark::Mark;
 use crate::recorded_site::RecordedSite;
 use crate::shelf::Shelf;
+use crate::turns::{StoreReturns, Turn};
 use crate::vault::Vault;
 use crate::{
     CommitFault, Growth, NewHistory, NewMark, SavedSteps, Settled, StepStore, StoredLedger,
@@ -20,7 +21,8 @@ use site_desk::{Pass, SiteDesk};
 use site_journal::{DecodeFault, DecodedFrame, DeskFault, Receipt, TakeFault};
 use status_report::Ask;
 use std::marker::Model;
-use std::sync::{Condvar, Mutex, Wait};
+use std::sync::atomic::{AtomicBool, Ordering};
+use std::sync::{Mutex, MutexGuard, Wait};
 use std::thread;
 
 // How many bytes the steps that aren't saved may keep beside themselves where a step is begun: 4 MiB.
@@ -42,8 +44,10 @@ enum Way {
 pub struct StoredDesk<S: StepStore, L: StoredLedger> {
     site: Mutex<RecordedSite<L>>,
     shelf: Mutex<Shelf<S, L>>,
-    // Is notified when the store comes back from a commit.
-    returned: Condvar,
+    // Where threads wait until the store comes back from a commit.
+    returns: StoreReturns,
+    // Whether a commit has failed.
+    has_failed: AtomicBool,
     mark: Mark<L>,
     passes: u32,
 }
@@ -90,7 +94,8 @@ impl<S: StepStore, L: StoredLedger> StoredDesk<S, L> {
         Ok(StoredDesk {
             site: Mutex::new(RecordedSite::new(journal, writer, prefix)),
             shelf: Mutex::new(shelf),
-            returned: Condvar::new(),
+            returns: StoreReturns::new(),
+            has_failed: AtomicBool::new(false),
             mark,
             passes,
         })
@@ -99,6 +104,18 @@ impl<S: StepStore, L: StoredLedger> StoredDesk<S, L> {
     /// Why a commit of the store has failed, if one has. Calls that begin later do no step. It waits for no commit. No contract says this.
     pub fn fault<R: Wait>(&self, rt: &R) -> Option<CommitFault> {
         self.shelf.lock(rt).fault()
+    }
+
+    // Whether a commit of the store has failed, as `fault` says it. It takes no lock.
+    fn has_failed(&self) -> bool {
+        self.has_failed.load(Ordering::SeqCst)
+    }
+
+    // Notes whether a commit has failed by which this vault is broken. No contract says this.
+    fn note_failure(&self, vault: &Vault<S, L>) {
+        if vault.fault().is_some() {
+            self.has_failed.store(true, Ordering::SeqCst);
+        }
     }
 
     // Saves all that the site has done, by the vault, in this way. Faults as of `Vault::save_rest` and `Vault::save_base`.
@@ -114,15 +131,16 @@ impl<S: StepStore, L: StoredLedger> StoredDesk<S, L> {
     }
 
     // Waits until the first `wanted` steps are saved or the store is free; then, if they aren't saved, takes the store, saves all that the
-    // site has done, in this way, puts the store back, and wakes all who wait for it, after a fault too. The shelf isn't locked meanwhile.
-    // Faults as of `save_by`. No contract says what is saved.
+    // site has done, in this way, puts the store back, and wakes those who wait for that, after a fault too. The shelf isn't locked
+    // meanwhile. Faults as of `save_by`. No contract says what is saved.
     fn save_first<R: Wait>(&self, rt: &R, wanted: u64, way: Way) -> Result<(), DeskFault>
         ensures { IfErr result (λ fault.
             (fault ≡ DeskFault.Unsaved) ⊎ (fault ≡ DeskFault.Memory)) }
     {
         let shelf = self.shelf.lock(rt);
         let mut shelf = self
-            .returned
+            .returns
+            .others()
             .wait_while(rt, shelf, |shelf| !shelf.is_ready(wanted));
         if wanted <= shelf.saved() {
             return Ok(());
@@ -133,25 +151,30 @@ impl<S: StepStore, L: StoredLedger> StoredDesk<S, L> {
             return Err(DeskFault::Unsaved);
         };
         let saved = self.save_by(rt, &mut vault, way);
+        self.note_failure(&vault);
+        let turn = vault.turn();
         self.shelf.lock(rt).put(vault, &self.mark);
-        self.returned.notify_all();
+        self.returns.announce(turn, saved.is_ok());
         saved
     }
 
-    // Makes ready for a step: where the steps that no commit has taken keep more than 4 MiB beside themselves, it saves all that the site has
-    // done, so that no commit needs much more memory than that. Faults, in order: 1 `Unsaved`, where a commit has failed before; 2 those of
-    // `settle_all`.
-    fn make_ready<R: Wait>(&self, rt: &R) -> Result<(), DeskFault>
+    // Locks the site, which is ready for a step: where the steps that no commit has taken keep more than 4 MiB beside themselves, it first
+    // saves all that the site has done, so that no commit needs much more memory than that. Faults, in order: 1 `Unsaved`, where a commit has
+    // failed before; 2 those of `settle_all`.
+    fn lock_ready<R: Wait>(&self, rt: &R) -> Result<MutexGuard<'_, RecordedSite<L>>, DeskFault>
         ensures { IfErr result (λ fault.
             (fault ≡ DeskFault.Unsaved) ⊎ (fault ≡ DeskFault.Memory)) }
     {
-        if self.fault(rt).is_some() {
+        if self.has_failed() {
             return Err(DeskFault::Unsaved);
         }
-        if self.site.lock(rt).untaken_bytes() <= MOST_UNSAVED_BYTES {
-            return Ok(());
+        let site = self.site.lock(rt);
+        if site.untaken_bytes() <= MOST_UNSAVED_BYTES {
+            return Ok(site);
         }
-        self.settle_all(rt)
+        drop(site);
+        self.settle_all(rt)?;
+        Ok(self.site.lock(rt))
     }
 
     // The settled receipt of a step, if it is saved; else the fault is `Unsaved`.
@@ -195,18 +218,66 @@ impl<S: StepStore, L: StoredLedger> StoredDesk<S, L> {
         self.settled(rt, done)
     }
 
-    // Waits until a step is saved, or saves it with all others. Errors, each of which drops the receipt, in order: 1 `Unsaved`, where a
-    // commit has failed before; 2 `Memory`, and a later call saves the step; 3 `Unsaved`, where the commit fails.
-    fn settle<R: Wait>(&self, rt: &R, done: Done<L>) -> Result<Settled<L>, DeskFault>
+    // Puts the vault back after a save that has gone well as `is_saved` says, and wakes those who wait for that. Returns the settled receipt of
+    // a step, if it is saved. A step that isn't comes back.
+    fn put_back<R: Wait>(
+        &self,
+        rt: &R,
+        vault: Vault<S, L>,
+        is_saved: bool,
+        done: Done<L>,
+    ) -> Result<Settled<L>, Done<L>>
+        ensures receipt { IfOk result (λ settled. settled ≡ done) }
+        ensures back { IfErr result (λ back. back ≡ done) }
+    {
+        self.note_failure(&vault);
+        let turn = vault.turn();
+        let mut shelf = self.shelf.lock(rt);
+        shelf.put(vault, &self.mark);
+        let settled = shelf.settled(done, &self.mark);
+        drop(shelf);
+        self.returns.announce(turn, is_saved);
+        settled
+    }
+
+    // Waits until a step, which was done in this turn, is saved, or saves it with all others: where the last commit has saved several steps,
+    // threads that are ready to run go first, so that the commit has their steps too. Errors, each of which drops the receipt, in
+    // order: 1 `Unsaved`, where a commit has failed before; 2 `Memory`, and a later call saves the step; 3 `Unsaved`, where the commit fails.
+    fn settle<R: Wait>(&self, rt: &R, done: Done<L>, turn: Turn) -> Result<Settled<L>, DeskFault>
         ensures receipt { IfOk result (λ settled. settled ≡ done) }
         ensures fault { IfErr result (λ fault.
             (fault ≡ DeskFault.Unsaved) ⊎ (fault ≡ DeskFault.Memory)) }
     {
-        if let Err(fault) = self.save_first(rt, done.end(), Way::Steps) {
+        let end = done.end();
+        let shelf = self.shelf.lock(rt);
+        let mut shelf = self
+            .returns
+            .of_turn(turn)
+            .wait_while(rt, shelf, |shelf| !shelf.is_ready(end));
+        let done = match shelf.settled(done, &self.mark) {
+            Ok(settled) => return Ok(settled),
+            Err(done) => done,
+        };
+        let vault = shelf.take();
+        drop(shelf);
+        let Some(mut vault) = vault else {
             drop(done);
-            return Err(fault);
+            return Err(DeskFault::Unsaved);
+        };
+        if vault.is_shared() {
+            thread::yield_now();
         }
-        self.settled(rt, done)
+        let saved = self.save_by(rt, &mut vault, Way::Steps);
+        match self.put_back(rt, vault, saved.is_ok(), done) {
+            Ok(settled) => Ok(settled),
+            Err(done) => {
+                drop(done);
+                match saved {
+                    Ok(()) => Err(DeskFault::Unsaved),
+                    Err(fault) => Err(fault),
+                }
+            }
+        }
     }
 
     /// Asks the site, and returns the receipt of the step once it is durable; so too the receipt of a refusal or a report, which may show
@@ -231,10 +302,18 @@ impl<S: StepStore, L: StoredLedger> StoredDesk<S, L> {
             ⊎ ((fault ≡ DeskFault.JournalFull)
             ⊎ ((fault ≡ DeskFault.Memory) ⊎ (fault ≡ DeskFault.Unsaved)))) }
     {
-        self.make_ready(rt)?;
         let copy = asked.copy();
-        let done = self.site.lock(rt).call(pass, asked, copy)?;
-        self.settle(rt, done)
+        let mut site = match self.lock_ready(rt) {
+            Ok(site) => site,
+            Err(fault) => {
+                drop(copy);
+                return Err(fault);
+            }
+        };
+        let turn = site.turn();
+        let done = site.call(pass, asked, copy);
+        drop(site);
+        self.settle(rt, done?, turn)
     }
 
     /// Puts the site's buffer into its next frame, if there is something in it, and returns the receipt once the step is durable. A commit
@@ -251,8 +330,7 @@ impl<S: StepStore, L: StoredLedger> StoredDesk<S, L> {
             ⊎ ((fault ≡ DeskFault.JournalFull) ⊎ ((fault ≡ DeskFault.Exhausted)
             ⊎ ((fault ≡ DeskFault.Memory) ⊎ (fault ≡ DeskFault.Unsaved))))) }
     {
-        self.make_ready(rt)?;
-        let done = self.site.lock(rt).cut(pass)?;
+        let done = self.lock_ready(rt)?.cut(pass)?;
         self.settle_frame(rt, done)
     }
 
@@ -267,14 +345,13 @@ impl<S: StepStore, L: StoredLedger> StoredDesk<S, L> {
             ⊎ ((fault ≡ DeskFault.JournalFull) ⊎ ((fault ≡ DeskFault.Exhausted)
             ⊎ ((fault ≡ DeskFault.Memory) ⊎ (fault ≡ DeskFault.Unsaved))))) }
     {
-        self.make_ready(rt)?;
-        let done = self.site.lock(rt).whole(pass)?;
+        let done = self.lock_ready(rt)?.whole(pass)?;
         self.settle_frame(rt, done)
     }
 
-    // Decodes the frame that bytes spell, for a take by this pass, and makes ready for a step. An error returns the bytes. Errors, in order:
-    // 1 `Unsaved`, where a commit has failed before; 2 where the bytes can't be decoded, `Rewound`, `JournalFull` and the fault of
-    // `DecodedFrame::decode`; 3 those of `make_ready`.
+    // Decodes the frame that bytes spell, for a take by this pass, and makes the site ready for a step. An error returns the bytes. Errors,
+    // in order: 1 `Unsaved`, where a commit has failed before; 2 where the bytes can't be decoded, `Rewound`, `JournalFull` and the fault
+    // of `DecodedFrame::decode`; 3 those of `lock_ready`.
     fn decode_ready<R: Wait>(
         &self,
         rt: &R,
@@ -291,7 +368,7 @@ impl<S: StepStore, L: StoredLedger> StoredDesk<S, L> {
             ⊎ (RefusesTake refused.0 ⊎ (refused.0 ≡ DeskFault.Unsaved))) }
         ensures back { IfErr result (λ refused. refused.1 ≡ bytes) }
     {
-        if self.fault(rt).is_some() {
+        if self.has_failed() {
             return Err((DeskFault::Unsaved, bytes));
         }
         let alloc = bytes.allocator();
@@ -299,8 +376,8 @@ impl<S: StepStore, L: StoredLedger> StoredDesk<S, L> {
             Ok(decoded) => decoded,
             Err((fault, bytes)) => return Err((self.site.lock(rt).first_fault(pass, fault), bytes)),
         };
-        match self.make_ready(rt) {
-            Ok(()) => Ok(decoded),
+        match self.lock_ready(rt) {
+            Ok(_) => Ok(decoded),
             Err(fault) => Err((fault, decoded.into_bytes())),
         }
     }

@@ -10,6 +10,7 @@ ghost use Rattle.stored_desk.specs.Recorded.{IsGroupOfRest, IsLegalHistory};
 use crate::history::HistoryPrefix;
 use crate::mark::{Keeper, Mark, SharedClaim};
 use crate::recorded_site::RecordedSite;
+use crate::turns::Turn;
 use crate::{CommitFault, Growth, Settled, StepStore, StoredLedger};
 use replica::Replica;
 use site_journal::{DeskFault, Receipt};
@@ -26,6 +27,10 @@ pub(crate) struct Vault<S: StepStore, L: StoredLedger> {
     fault: Option<CommitFault>,
     prefix: HistoryPrefix<L>,
     keeper: Keeper<L>,
+    // The turn that has begun when steps of the site were last taken.
+    turn: Turn,
+    // How many steps the last commit has saved.
+    group_len: u64,
 }
 
 impl<S: StepStore, L: StoredLedger> Model for Vault<S, L> {
@@ -62,6 +67,8 @@ impl<S: StepStore, L: StoredLedger> Vault<S, L> {
             fault: None,
             prefix,
             keeper,
+            turn: Turn::First,
+            group_len: 0,
         }
     }
 
@@ -94,6 +101,16 @@ impl<S: StepStore, L: StoredLedger> Vault<S, L> {
         }
     }
 
+    // The turn that has begun when steps of the site were last taken: that of each step which is done now. No contract says which.
+    pub fn turn(&self) -> Turn {
+        self.turn
+    }
+
+    // Whether the last commit has saved several steps, as it does where several threads ask the site at once. No contract says this.
+    pub fn is_shared(&self) -> bool {
+        self.group_len > 1
+    }
+
     // How much its store has stored since its base. No contract says how much.
     pub fn since_base(&self) -> Growth {
         self.store.since_base()
@@ -107,8 +124,8 @@ impl<S: StepStore, L: StoredLedger> Vault<S, L> {
         mark.share(&mut self.keeper)
     }
 
-    // Saves a group in one commit: the steps of `history` behind those that are saved. The only fault is `Unsaved`, where the commit fails:
-    // the vault is then broken, and has saved the steps from before.
+    // Saves a group in one commit: the steps of `history` behind those that are saved, which were just taken, so their turn has ended. The
+    // only fault is `Unsaved`, where the commit fails: the vault is then broken, and has saved the steps from before.
     fn save<R: Wait>(
         &mut self,
         rt: &R,
@@ -127,6 +144,7 @@ impl<S: StepStore, L: StoredLedger> Vault<S, L> {
         ensures broken { OnErr result (self.new.broken ≡ true) }
         ensures fault { IfErr result (λ fault. fault ≡ DeskFault.Unsaved) }
     {
+        self.turn = self.turn.next();
         self.is_broken = true;
         self.prefix.compare(&history);
         match self.store.commit(group) {
@@ -138,6 +156,7 @@ impl<S: StepStore, L: StoredLedger> Vault<S, L> {
             }
         }
         mark.raise(rt, &mut self.keeper, history.len());
+        self.group_len = history.len().saturating_sub(self.prefix.len());
         self.prefix = history;
         self.is_broken = false;
         Ok(())

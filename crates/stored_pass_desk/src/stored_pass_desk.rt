@@ -10,6 +10,9 @@ use std::marker::Model;
 use std::sync::Wait;
 use stored_desk::{StepStore, StoredDesk, StoredLedger};
 
+// How often the site is asked where its journal is full each time.
+const MOST_TRIES: u32 = 100;
+
 /// A desk for sessions that has their asks answered by a pass of a desk with a store. Contracts see it as its pass (this project's own).
 #[derive(Drop)]
 pub struct StoredPassDesk<'a, S: StepStore, L: StoredLedger> {
@@ -63,8 +66,8 @@ fn answer_by<S: StepStore, L: StoredLedger, R: Wait>(
 }
 
 // What the site answers, by this pass, once the answer is durable. Where its journal is full, all its steps are saved and dropped, and the
-// site is asked once more. `DeskDown`: another error of a call, an error of `StoredDesk::checkpoint`, or the journal was full again. The
-// ask may then have been done.
+// site is asked again, 100 times in all, since other threads may have filled it meanwhile. `DeskDown`: another error of a call, an error of
+// `StoredDesk::checkpoint`, or the journal was full each time. The ask may then have been done.
 fn answer_with_room<S: StepStore, L: StoredLedger, R: Wait>(
     rt: &R,
     desk: &StoredDesk<S, L>,
@@ -76,18 +79,17 @@ fn answer_with_room<S: StepStore, L: StoredLedger, R: Wait>(
     ensures fails { OnErr result
         ((pass.new ≡ pass.old) ⊎ HasDoneUnanswered L.base pass.old pass.new) }
 {
-    match answer_by(rt, desk, pass, asked) {
-        Ok(answer) => return Ok(answer),
-        Err(DeskFault::JournalFull) => {}
-        Err(_) => return Err(DeskDown),
+    for _ in 0..MOST_TRIES {
+        match answer_by(rt, desk, pass, asked) {
+            Ok(answer) => return Ok(answer),
+            Err(DeskFault::JournalFull) => {}
+            Err(_) => return Err(DeskDown),
+        }
+        if desk.checkpoint(rt).is_err() {
+            return Err(DeskDown);
+        }
     }
-    if desk.checkpoint(rt).is_err() {
-        return Err(DeskDown);
-    }
-    match answer_by(rt, desk, pass, asked) {
-        Ok(answer) => Ok(answer),
-        Err(_) => Err(DeskDown),
-    }
+    Err(DeskDown)
 }
 
 impl<'a, S: StepStore, L: StoredLedger, R: Wait> Desk<R> for StoredPassDesk<'a, S, L> {
@@ -97,10 +99,10 @@ impl<'a, S: StepStore, L: StoredLedger, R: Wait> Desk<R> for StoredPassDesk<'a, 
     ghost refuses = { λ old asked new. (new ≡ old) ⊎ HasDoneUnanswered L.base old new };
 
     /// The site's answer, once it is durable. Where the site's journal is full, all its steps are saved and dropped, and the site is asked
-    /// once more.
+    /// again, 100 times in all.
     ///
     /// `DeskDown`: a commit of the store has failed; or the desk is out of memory, for the answer, its commit or the drop; or the journal was
-    /// full again, or is shorter than the pass has seen. The ask may have been done, and nothing shows it to the client.
+    /// full each time, or is shorter than the pass has seen. The ask may have been done, and nothing shows it to the client.
     fn ask(&mut self, rt: &R, asked: Ask) -> Result<Answer, DeskDown> {
         let answered = answer_with_room(rt, self.desk, &mut self.pass, &asked);
         drop(asked);

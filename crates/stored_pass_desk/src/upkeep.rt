@@ -11,7 +11,7 @@ pub const MOST_KEPT: u64 = 67_108_864;
 
 /// A desk whose journal is kept within its limits (this project's own).
 pub trait Upkeep<R> {
-    /// Drops the steps of the journal. A desk without a store does so only where the journal is full; one with a store saves them first.
+    /// Drops the steps of the journal. A desk without a store does so only where that makes room; one with a store saves them first.
     /// Errors, in order: 1 `Unsaved`, where the store has failed; 2 `Memory`, and no step is dropped; 3 `Unsaved`, where the commit
     /// fails: the steps are dropped all the same. The contract says only which errors there are.
     fn drop_steps(&self, rt: &R) -> Result<(), DeskFault>
@@ -24,7 +24,7 @@ pub trait Upkeep<R> {
 }
 
 impl<L: SiteLedger, R: Wait> Upkeep<R> for SiteDesk<L> {
-    // Drops them where the journal is full, so that of several threads that find it full one does so. `Memory` leaves all.
+    // Drops them where that makes room, so that of several threads that find the journal full one does so. `Memory` leaves all.
     fn drop_steps(&self, rt: &R) -> Result<(), DeskFault> {
         match self.checkpoint_if_full(rt) {
             Ok(_) => Ok(()),

@@ -1,6 +1,7 @@
 //! One site with a store: its desk, its threads, and how its store comes back.
 ghost use Rattle.std.specs.Prelude.{◌≡◌, IfOk, IfSome, List, None, Some, vec_len};
 ghost use Rattle.replica.specs.Site.{SiteState};
+ghost use Rattle.site_journal.specs.Journals.{IsNewJournal};
 ghost use Rattle.site_desk.specs.Passes.{AreAll, AreNewPasses};
 ghost use Rattle.site_threads.specs.Ledgers.{IsBlankFor, IsJournalFor, IsLedgerOf};
 ghost use Rattle.site_threads.specs.Limits.{IsStepLimit};
@@ -10,6 +11,8 @@ ghost use Rattle.stored_threads.specs.StoredEnds.{HasStoredEnd, IsStoreOf};
 
 use crate::stored_task::StoredWorkplace;
 use crate::{StoredSiteOutput, StoredSiteTasks, StoredTask};
+use dots::Memory;
+use replica::Replica;
 use site_desk::{Pass, SiteDesk};
 use site_journal::{DeskFault, Journaled};
 use site_threads::{
@@ -218,8 +221,28 @@ where
     }
 }
 
-// Runs a site from its replica on, under a ledger that this call names. Errors: `Memory`, if there is none for the mark
-// or the journal; those of `run_journal`. Then no task was done, and all are dropped.
+// The mark of a site's store, and the journal of its replica, without steps. Fails only when out of memory, and then
+// drops the replica.
+fn begin(alloc: Global, replica: Replica, limit: u32) -> Result<(NewMark, Journaled), Memory>
+    requires { IsStepLimit limit }
+    ensures { IfOk result (λ begun. IsNewJournal replica limit begun.1) }
+{
+    let Ok(mark) = NewMark::new(alloc) else {
+        drop(replica);
+        return Err(Memory);
+    };
+    match Journaled::new(alloc, replica, limit) {
+        Ok(journal) => Ok((mark, journal)),
+        Err((_, replica)) => {
+            drop(mark);
+            drop(replica);
+            Err(Memory)
+        }
+    }
+}
+
+// Runs a site from its replica on, under a ledger that this call names. Errors: `Memory`, as of `begin`; those of
+// `run_journal`. Then no task was done, and all are dropped.
 pub(crate) fn run_replica<
     R: Threads + Wait + Sync,
     D: StepStore + Send,
@@ -246,24 +269,15 @@ where
         shared,
         tasks,
     } = site;
-    let Ok(mark) = NewMark::new(alloc) else {
-        drop(replica);
-        drop(store);
-        drop(shared);
-        drop(tasks);
-        return Err(SiteFault::Memory);
-    };
-    match Journaled::new(alloc, replica, limit) {
-        Ok(journal) => {
+    match begin(alloc, replica, limit) {
+        Ok((mark, journal)) => {
             let blank = Blank::new(tasks.len() as u64);
             let history = NewHistory::new();
             run_journal::<Brand, R, D, S, T>(
                 rt, alloc, start, blank, journal, history, mark, store, shared, tasks,
             )
         }
-        Err((_, replica)) => {
-            drop(replica);
-            drop(mark);
+        Err(_) => {
             drop(store);
             drop(shared);
             drop(tasks);
