@@ -105,10 +105,12 @@ class Owner:
 
 class Working:
     """Threads of owners at work, whose faults are not lost: at the server and its site that `place_of` names. `is_done` ends them, and behind
-    `is_over` the server may be killed."""
+    `is_over` the server may be killed, or from the beginning if it `may_end`."""
 
-    def __init__(self, owners, place_of, seed):
+    def __init__(self, owners, place_of, seed, may_end=False):
         self.is_done, self.is_over, self.faults = threading.Event(), threading.Event(), []
+        if may_end:
+            self.is_over.set()
         self.threads = [threading.Thread(target=self.run, args=(it, *place_of(it), seed + it.number)) for it in owners]
         for it in self.threads:
             it.start()
@@ -588,8 +590,7 @@ def full_disks(clients=4):
                 need(os.listdir(disk) == [], f"a store that could not be made leaves {os.listdir(disk)!r}")
         with small_disk(room, "1m") as disk:
             with stored(disk, 1) as server:
-                working = Working(owners, lambda it: (server, 0), 0)
-                working.is_over.set()
+                working = Working(owners, lambda it: (server, 0), 0, may_end=True)
                 working.wait()
                 need(server.process.wait(PATIENCE) == 1, f"a server whose disk is full ends with status {server.process.returncode}")
                 told = server.stop()

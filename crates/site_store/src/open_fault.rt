@@ -1,3 +1,5 @@
+ghost use Rattle.std.specs.Prelude.{◌≡◌};
+ghost use Rattle.site_store.specs.OpenFaults.{open_fault};
 ghost use Rattle.site_store.specs.Resumed.{IsOfRows};
 
 use sqlite::{Error, ErrorCode};
@@ -40,9 +42,10 @@ pub enum OpenFault {
 }
 
 // What an error of the database is, as the fault of an open: `InUse`, `CannotOpen`, `NoStore`,
-// `Damaged` or `Memory` where its code says that, else `Database`. No contract says which.
+// `Damaged` or `Memory` where its code says that, else `Database`.
 pub(crate) fn open_fault(error: Error) -> OpenFault
-    ensures { IsOfRows result → ⊥ }
+    ensures value { result ≡ open_fault error }
+    ensures rows { IsOfRows result → ⊥ }
 {
     match error {
         Error::SqliteFailure(ErrorCode::DatabaseBusy) => OpenFault::InUse,

@@ -10,6 +10,7 @@ ghost use Rattle.stored_steps.specs.StartRows.{start_row};
 ghost use Rattle.stored_steps.specs.Stored.{Stored};
 ghost use Rattle.site_store.specs.declared.open_fault.OpenFault.{OpenFault};
 ghost use Rattle.site_store.specs.Kept.{SparesKeptAtOk};
+ghost use Rattle.site_store.specs.OpenFaults.{site_fault};
 ghost use Rattle.site_store.specs.Steps.{CommitsSteps, Holds, IsIdle, IsStoreSchema, LeavesOnly};
 ghost use Rattle.site_store.specs.Steps.{OnlyReads};
 ghost use Rattle.site_store.specs.Resumed.{IsOfRows, IsRestoredAt, IsResumed, KeepsRefusedRows};
@@ -42,8 +43,10 @@ pub struct ResumedSite {
     pub bytes: u64,
 }
 
-// The fault of an open for rows that make no site: `Memory` stays, and every other fault is a `Site`. No contract says this.
-fn site_fault(fault: StoreFault) -> OpenFault {
+// The fault of an open for rows that make no site: `Memory` stays, and every other fault is a `Site`.
+fn site_fault(fault: StoreFault) -> OpenFault
+    ensures { result ≡ site_fault fault }
+{
     match fault {
         StoreFault::Memory => OpenFault::Memory,
         fault => OpenFault::Site(fault),

@@ -7,6 +7,7 @@ ghost use Rattle.site_journal.specs.declared.step.Step.{Step};
 ghost use Rattle.stored_steps.specs.StepRows.{IsWithinLimits, rows_of};
 ghost use Rattle.stored_steps.specs.Stored.{Stored};
 ghost use Rattle.site_store.specs.Kept.{AddsToAll, CommitsAll, CommitsToAll, HoldsAll, LeavesAll};
+ghost use Rattle.step_database.specs.CommitFaults.{commit_fault};
 ghost use Rattle.step_database.specs.Standing.{AreRowsOf, StandForSteps, StoreOrigin};
 ghost use Rattle.step_database.specs.Databases.{Keeps, Stores};
 
@@ -53,8 +54,9 @@ pub(crate) fn grown(growth: Growth, rows: &[StoredRow]) -> Growth {
 }
 
 // Why a commit has failed, by the database's error: `Full`; `Device`, if the disk fails, or the database is damaged or closed; else `Other`.
-// No contract says this.
-fn commit_fault(error: Error) -> CommitFault {
+fn commit_fault(error: Error) -> CommitFault
+    ensures { result ≡ commit_fault error }
+{
     match error {
         Error::SqliteFailure(ErrorCode::DiskFull) => CommitFault::Full,
         Error::SqliteFailure(ErrorCode::SystemIoFailure)

@@ -1,6 +1,7 @@
 ghost use Rattle.std.specs.Prelude.{◌≡◌, ◌≢◌};
 ghost use Rattle.sqlite.specs.declared.error.Error.TheVariants.{SqliteFailure};
 ghost use Rattle.sqlite.specs.declared.error.ErrorCode.TheVariants.{NotADatabase};
+ghost use Rattle.store_copy.specs.CopyFaults.{open_fault, read_fault};
 
 use sqlite::{Error, ErrorCode};
 use thiserror::Error;
@@ -26,10 +27,10 @@ pub enum CopyFault {
 }
 
 // What an error of a read is, as the fault of a copy: `Damaged` where its code says that;
-// `Memory` where it says that, or that a file in memory failed; else `Database`. No contract
-// says which.
+// `Memory` where it says that, or that a file in memory failed; else `Database`.
 pub(crate) fn read_fault(error: Error) -> CopyFault
-    ensures { result ≢ CopyFault.NoStore }
+    ensures value { result ≡ read_fault error }
+    ensures store { result ≢ CopyFault.NoStore }
 {
     match error {
         Error::SqliteFailure(ErrorCode::DatabaseCorrupt) => CopyFault::Damaged,
@@ -43,7 +44,8 @@ pub(crate) fn read_fault(error: Error) -> CopyFault
 // What an error of an open is, as the fault of a copy: `NoStore` where the file is no database,
 // else as of a read.
 pub(crate) fn open_fault(error: Error) -> CopyFault
-    ensures { result ≡ CopyFault.NoStore → error ≡ SqliteFailure NotADatabase }
+    ensures value { result ≡ open_fault error }
+    ensures no_store { result ≡ CopyFault.NoStore → error ≡ SqliteFailure NotADatabase }
 {
     match error {
         Error::SqliteFailure(ErrorCode::NotADatabase) => CopyFault::NoStore,

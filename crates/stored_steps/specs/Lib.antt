@@ -9,3 +9,4 @@ pub mod Appending
 pub mod BaseReading
 pub mod BaseFaults
 pub mod Restoring
+pub mod StoreFaults

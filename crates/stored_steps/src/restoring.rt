@@ -6,6 +6,7 @@ ghost use Rattle.site_journal.specs.Journals.{IsNewJournal};
 ghost use Rattle.stored_steps.specs.Bases.{IsReadBase};
 ghost use Rattle.stored_steps.specs.Restoring.{HasReplayed, HasReplayedStep, HasRoom, IsRestoredSite};
 ghost use Rattle.stored_steps.specs.StartRows.{is_start};
+ghost use Rattle.stored_steps.specs.StoreFaults.{base_fault, replay_fault, row_fault};
 ghost use Rattle.stored_steps.specs.Stored.{Stored};
 
 use crate::base_reading::base_of_row;
@@ -17,16 +18,20 @@ use replica::{QueueList, Replica};
 use site_journal::{Journaled, MOST_STEPS, ReplayFault, Step};
 use std::alloc::Global;
 
-// The fault of a store whose first row is no base: `Memory` stays, and every other fault is a `Base`. No contract says this.
-fn base_fault(fault: BaseFault) -> StoreFault {
+// The fault of a store whose first row is no base: `Memory` stays, and every other fault is a `Base`.
+fn base_fault(fault: BaseFault) -> StoreFault
+    ensures { result ≡ base_fault fault }
+{
     match fault {
         BaseFault::Memory => StoreFault::Memory,
         fault => StoreFault::Base(fault),
     }
 }
 
-// The fault of a store whose row of this position is of no step: `Memory` stays, and every other fault is a `Row`. No contract says this.
-fn row_fault(position: u64, fault: RowFault) -> StoreFault {
+// The fault of a store whose row of this position is of no step: `Memory` stays, and every other fault is a `Row`.
+fn row_fault(position: u64, fault: RowFault) -> StoreFault
+    ensures { result ≡ row_fault position fault }
+{
     match fault {
         RowFault::Memory => StoreFault::Memory,
         fault => StoreFault::Row(position, fault),
@@ -34,8 +39,10 @@ fn row_fault(position: u64, fault: RowFault) -> StoreFault {
 }
 
 // The fault of a store where the step of the row of this position was not done again: `Damaged` with this position, `JournalFull` or
-// `Memory`. No contract says this.
-fn replay_fault(position: u64, fault: ReplayFault) -> StoreFault {
+// `Memory`.
+fn replay_fault(position: u64, fault: ReplayFault) -> StoreFault
+    ensures { result ≡ replay_fault position fault }
+{
     match fault {
         ReplayFault::JournalFull => StoreFault::JournalFull,
         ReplayFault::Damaged(_) => StoreFault::Damaged(position),

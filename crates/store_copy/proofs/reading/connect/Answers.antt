@@ -12,4 +12,4 @@ returns-in-Ok-clause-found c =
     record { holds = found.holds; reads = found.reads }
 
 pub returns-in-Err-clause-refused : goal.returns-in-Err-clause-refused
-returns-in-Err-clause-refused c is db held = holds_none _ _ _ _ _ c.in-Err.error (c.open_fault.ensures is) (c.in-Err.ensures.cause (left_clean c.in-Err.left)) (inl (db, held))
+returns-in-Err-clause-refused c is db held = holds_none _ _ _ _ _ c.in-Err.error (c.open_fault.ensures.no_store is) (c.in-Err.ensures.cause (left_clean c.in-Err.left)) (inl (db, held))
