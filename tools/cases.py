@@ -25,7 +25,6 @@ import tempfile
 import time
 from typing import NamedTuple
 
-import script_program
 from crates import TOP, folder
 from program_tests import Failed, first_difference, read
 
@@ -141,7 +140,7 @@ def unproved_failure(case, said):
 def try_cases(cases):
     """Compiles the unproved program once and runs it on each case. Returns what rt says of each, by
     its number."""
-    with tempfile.TemporaryDirectory() as room, tempfile.TemporaryDirectory() as low:
+    with tempfile.TemporaryDirectory() as room:
         for number, case in enumerate(cases):
             words = "".join(f"{it}\n" for it in case.words()).encode()
             files = {"": case.part(case.kind), ".stdout": case.part("expected"), ".args": words}
@@ -150,7 +149,7 @@ def try_cases(cases):
                     file.write(content)
         words = ["rt", "try", "--seconds", str(SECONDS_OF_A_CASE), "--cases", room]
         how = {"stdin": subprocess.DEVNULL, "capture_output": True, "check": False}
-        ran = subprocess.run(words, cwd=script_program.make(low), **how)
+        ran = subprocess.run(words, cwd=folder("queue_script"), **how)
     text = ran.stderr.decode(errors="replace")
     # What rt says of a case ends in a line that names it.
     found = re.finditer(r"((?:(?!case=).*\n)*)case=(\d+) .*\n", text)

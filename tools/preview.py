@@ -2,9 +2,9 @@
 
     ./queue_sites preview [--seconds N] WORDS..
 
-WORDS are those of the program. `rt try` compiles it with checks, anew each time, and of a script the
-part that runs scripts alone; then it runs it for at most N seconds: 600 of `serve` and `site`, else
-60, where N is not given. Nothing below an out/ of a crate is read or written. The program runs in a
+WORDS are those of the program. `rt try` compiles it with checks, anew each time, and for a script the
+program that runs scripts alone; then it runs it for at most N seconds: 600 of `serve` and `site`,
+else 60, where N is not given. Nothing below an out/ of a crate is read or written. The program runs in a
 new folder, which is gone at its end: name files and folders by their whole paths.
 
 Standard output is the program's. Standard error is one line that says what this run is, and then
@@ -28,7 +28,6 @@ import sys
 import tempfile
 import time
 
-import script_program
 from crates import folder
 
 USAGE = """Usage: queue_sites preview [--seconds N] WORDS..
@@ -176,9 +175,8 @@ def preview(words):
     is_script = words[0] == "script"
     print(NOTE.format("a minute" if is_script else "three minutes", seconds), file=sys.stderr, flush=True)
     given = given_input() if is_script else b""
-    with tempfile.TemporaryDirectory(prefix="queue_sites-") as room, tempfile.TemporaryDirectory(prefix="scripts-") as low:
-        program = script_program.make(low) if is_script else folder("queue_sites")
-        result = run(room, program, seconds, words, given)
+    with tempfile.TemporaryDirectory(prefix="queue_sites-") as room:
+        result = run(room, folder("queue_script" if is_script else "queue_sites"), seconds, words, given)
     return status_of(seconds, *result)
 
 

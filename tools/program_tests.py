@@ -185,7 +185,7 @@ def wrong_words_of_reports(program):
     check(program, ["steps", "none", "more"], 2, told=b"unexpected argument 'more'")
     for words in (["steps", "none"], ["steps", "none", "--frames"], ["steps", "--frames", "none"], ["audit", "none", "more"]):
         check(program, words, 1, told=b"queue_sites: store none: cannot read: " + NO_FILE)
-    check(program, ["audit", "--help"], 0, printed=b"Usage: %b audit <FILE>..." % os.path.basename(program).encode())
+    check(program, ["audit", "--help"], 0, printed=b"Usage: queue_sites audit <FILE>...")
     check(program, ["steps", "--help"], 0, printed=b"--frames")
 
 
@@ -209,6 +209,14 @@ def from_another_folder(room):
     given = {"given": read(f"{STORED}/stdin"), "place": room, "more": {"PATH": path}}
     ran = run(shutil.which("queue_sites", path=path), stored_words("queue_sites"), **given)
     expect(ran.stdout == read(f"{STORED}/stdout"), "it did not write what its file stdout has", ran)
+
+
+def scripts_alone():
+    """The program of scripts says in its help what `queue_sites` says, and does nothing else."""
+    program, words = f"{folder('queue_script')}/out/queue_script", ["script", "--help"]
+    ran = run(program, words)
+    expect(ran.stdout == run(BUILT, words).stdout != b"", "its help is not that of queue_sites", ran)
+    check(program, ["audit", "none"], 2, told=b"queue_sites: this program runs scripts alone\n")
 
 
 def built_files():
@@ -325,17 +333,19 @@ def run_all(is_gate_passed=False):
     """Runs all tests. Returns lines that report what was run. Once the gate has passed, they include the program as Rattle's own
     compiler builds it."""
     run("./queue_sites", ["--version"])
-    programs = ["./queue_sites", f"{BUILT}.by-rattle"] if is_gate_passed else ["./queue_sites"]
+    programs = [BUILT, f"{BUILT}.by-rattle"] if is_gate_passed else [BUILT]
     with tempfile.TemporaryDirectory() as room:
-        for program in programs:
+        for program in ("./queue_sites", *programs):
             statuses(program)
             wrong_words(program)
+            failures(program, room)
+        for program in programs:
             wrong_words_of_site(program)
             wrong_words_of_reports(program)
             for errors in (errors_of_serve, errors_of_site):
                 with tempfile.TemporaryDirectory() as files:
                     errors(program, files)
-            failures(program, room)
+        scripts_alone()
         from_another_folder(room)
         first_example()
         wrong_words_of_preview()

@@ -1,9 +1,10 @@
 ghost use Rattle.std.specs.Prelude.{◌≡◌, ◌≢◌, ◌≤◌, IfOk, IfSome, IsSomeAnd, None, Ok, OnErr, OnOk, Some};
 ghost use Rattle.std.specs.Prelude.{length, map, string_bytes, true, vec_len};
+ghost use Rattle.dots.specs.declared.limits.TheConstants.{MOST_PEERS};
 
 use crate::exit::Exit;
 use crate::secret_file::{SecretFault, read_secret};
-use crate::site_request::{MOST_PEERS, SiteAddresses, SiteRequest};
+use crate::site_request::{SiteAddresses, SiteRequest};
 use crate::steps_request::StepsRequest;
 use crate::store_request::StoreRequest;
 use crate::words::{
@@ -12,7 +13,7 @@ use crate::words::{
 };
 use ami_session::is_login_word;
 use clap::error::ErrorKind;
-use dots::{QueueName, SiteId, Text80};
+use dots::{MOST_PEERS, QueueName, SiteId, Text80};
 use link_keys::Key;
 use replica::{ListFault, QueueList};
 use scripts::SiteCount;
@@ -199,6 +200,24 @@ fn serve_request<R: Files + AllocGlobal>(rt: &R, words: &ServeWords<'_>) -> Resu
     }
 }
 
+// The queues of a site, the settings of its sessions, and the key of its links. Refused, in order: what `queue_list` does; what `secrets_of`
+// does.
+fn list_and_secrets<R: Files + AllocGlobal>(
+    rt: &R,
+    words: &SiteWords<'_>,
+) -> Result<(QueueList, SessionSettings, Key), Refusal>
+    ensures { IfOk result (λ parts. parts.1.places ≡ words.now.session.places) }
+{
+    let list = queue_list(rt.alloc(), &words.queues)?;
+    match secrets_of(rt, words) {
+        Ok((session, key)) => Ok((list, session, key)),
+        Err(refusal) => {
+            drop(list);
+            Err(refusal)
+        }
+    }
+}
+
 // What `site` asks for. Refused, in order: a number above 63 (clap lets none through); `--keep` without `--store`; what `addresses_of`
 // refuses; what `queue_list` does; what `secrets_of` does; out of memory.
 fn site_request<R: Files + AllocGlobal>(rt: &R, words: &SiteWords<'_>) -> Result<Request, Refusal>
@@ -225,18 +244,10 @@ fn site_request<R: Files + AllocGlobal>(rt: &R, words: &SiteWords<'_>) -> Result
     };
     check_store(words.store)?;
     let addresses = addresses_of(rt.alloc(), words)?;
-    let list = match queue_list(rt.alloc(), &words.queues) {
-        Ok(list) => list,
+    let (list, session, key) = match list_and_secrets(rt, words) {
+        Ok(parts) => parts,
         Err(refusal) => {
             drop(addresses);
-            return Err(refusal);
-        }
-    };
-    let (session, key) = match secrets_of(rt, words) {
-        Ok(secrets) => secrets,
-        Err(refusal) => {
-            drop(addresses);
-            drop(list);
             return Err(refusal);
         }
     };

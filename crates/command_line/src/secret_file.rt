@@ -1,5 +1,5 @@
 use dots::Text80;
-use std::io::Read;
+use std::io::{ErrorKind, Read};
 use std::rt::Files;
 use std::{fs, io};
 
@@ -18,15 +18,30 @@ pub(crate) enum SecretFault {
     NotText,
 }
 
-// Reads until the piece is full or the file has ended, at most 1,000 times. Returns the number of bytes read. The first error of a read
-// ends it.
+// Reads once, and tries again where the read is interrupted, 1,000 times in all. Returns what the last try does: the number of bytes read,
+// or its error.
+fn read_once<F: Read>(file: &mut F, piece: &mut [u8]) -> Result<usize, io::Error> {
+    for _ in 1..READS {
+        match file.read(piece) {
+            Ok(count) => return Ok(count),
+            Err(error) => {
+                if error.kind() != ErrorKind::Interrupted {
+                    return Err(error);
+                }
+            }
+        }
+    }
+    file.read(piece)
+}
+
+// Reads until the piece is full or the file has ended. Returns the number of bytes read. The first error of a read ends it.
 fn read_front<F: Read>(file: &mut F, piece: &mut [u8]) -> Result<usize, io::Error> {
     let mut count = 0usize;
-    for _ in 0..READS {
+    for _ in 0..piece.len() {
         if count >= piece.len() {
             break;
         }
-        let read = file.read(&mut piece[count..])?;
+        let read = read_once(file, &mut piece[count..])?;
         if read == 0 {
             break;
         }

@@ -1,14 +1,11 @@
 ghost use Rattle.std.specs.Prelude.{◌≤◌, vec_len};
-ghost use Rattle.command_line.specs.declared.site_request.TheConstants.{MOST_PEERS};
+ghost use Rattle.dots.specs.declared.limits.TheConstants.{MOST_PEERS};
 
 use crate::store_request::StoreRequest;
-use dots::SiteId;
+use dots::{MOST_PEERS, SiteId};
 use link_keys::Key;
 use replica::QueueList;
 use serving_clients::SessionSettings;
-
-/// How many peers a site may have: all sites, itself among them.
-pub const MOST_PEERS: usize = 64;
 
 /// Where a site is reached, and its peers. Each address is that of a host, by its name or number, and a port.
 #[derive(Drop)]

@@ -619,6 +619,7 @@ fn command<'a>(
 ) -> Result<Command<'a>, AllocError> {
     let subcommands = subcommands(alloc, defaults, is_in_file)?;
     Command::new(alloc, "queue_sites")
+        .bin_name("queue_sites")?
         .about("The queue membership service of a call centre with several sites")
         .version("0.1.0")
         .subcommand_required(true)

@@ -12,7 +12,6 @@ mod system;
 use command_line::{Exit, Request, read_command_line, run_input};
 use event_log::EventLog;
 use logging::Logging;
-use scripts::ScriptFault;
 use std::alloc::Global;
 use std::fmt::Display;
 use std::io;
@@ -53,7 +52,7 @@ fn run<
 >(rt: &R, host: &HostRuntime) -> io::Result<Exit> {
     let request = read_command_line(rt)?;
     match &request {
-        Request::Script(sites, list) => exit_of(rt, run_input(rt, *sites, list)),
+        Request::Script(sites, list) => run_input(rt, *sites, list),
         Request::Audit(paths) => reporting::audit(rt, paths.as_slice()),
         Request::Steps(request) => reporting::list(rt, request),
         Request::Done(exit) => Ok(*exit),
@@ -65,16 +64,6 @@ fn run<
 pub(crate) fn failed<R: Eprint, F: Display>(rt: &R, why: &F) -> io::Result<Exit> {
     eprintln!(rt; "queue_sites: {why}")?;
     Ok(Exit::Failed)
-}
-
-// The exit of a script: `Done` if each line was understood, else `NotUnderstood`; `Failed` after a fault, which is printed on standard
-// error. `Err`: that printing failed.
-fn exit_of<R: Eprint>(rt: &R, end: Result<u64, ScriptFault>) -> io::Result<Exit> {
-    match end {
-        Ok(0) => Ok(Exit::Done),
-        Ok(_) => Ok(Exit::NotUnderstood),
-        Err(fault) => failed(rt, &fault),
-    }
 }
 
 // Serves what is requested until it ends or the program is stopped, and returns the exit; of a request that serves nothing `Done`. A fault
