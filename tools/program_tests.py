@@ -284,7 +284,7 @@ def preview_of_a_server():
 
 
 def compiled_refusal(room, name="refuse_allocation"):
-    """The library that refuses an allocation of a program that it is loaded before, or that of another name. Nothing where there is no C
+    """The library that refuses an allocation of a program that it is loaded before, or another of tools/. Nothing where there is no C
     compiler."""
     compiler = next(filter(None, map(shutil.which, ["cc", "gcc", "clang"])), None)
     if not compiler:
