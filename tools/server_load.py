@@ -1,8 +1,12 @@
 """Measures how fast the server of queue_sites answers over loopback, with the clients of tools/load.c: each sends one request, waits for
 the whole reply, and only then sends the next. Prints, for each load, the requests answered in a second, the megabytes of replies in a
 second, and within how many microseconds half of the replies arrive, and 99 of 100. Where Debian's redis-server is installed, the same
-clients measure it in the same run, by `HSET`. Clients and servers share the processors."""
+clients measure it in the same run, by `HSET`. Clients and servers share the processors.
+
+A machine may be one of several on a host that runs others on its processors meanwhile. So each load runs several times; the row shows the
+run from which the host took the least, and its share of the processors' time."""
 import contextlib
+import functools
 import os
 import shutil
 import socket
@@ -16,6 +20,7 @@ from program_tests import Failed
 from server_tests import PATIENCE, Server, fill, free_ports
 
 SECONDS = 3
+RUNS = 5  # of each load
 # How many clients there are, at how many sites, and how many members a queue has whose status each request asks for; None: each request sets
 # a penalty.
 LOADS = [(1, 1, None), (4, 1, None), (32, 1, None), (1, 8, None), (4, 8, None), (32, 8, None), (1, 1, 1_000), (4, 1, 1_000)]
@@ -70,25 +75,47 @@ def redis(room):
             process.terminate()
 
 
-def show(what, clients, sites, members, figures):
-    count, bytes_read, half, most, _ = figures
+def redis_load(program, clients, room):
+    """A load of Redis."""
+    with redis(room) as port:
+        return measured(program, "redis", port, 1, clients, SECONDS, "hset")
+
+
+def processor_ticks():
+    """How long the host has run something else on this machine's processors, and how long they have been there, in ticks."""
+    with open("/proc/stat", encoding="ascii") as file:
+        ticks = [int(it) for it in file.readline().split()[1:9]]
+    return ticks[-1], sum(ticks)
+
+
+def watched(load):
+    """The share of the processors' time that the host takes while a load runs, and what the load measures."""
+    stolen, ticks = processor_ticks()
+    figures = load()
+    stolen_now, ticks_now = processor_ticks()
+    return (stolen_now - stolen) / max(ticks_now - ticks, 1), figures
+
+
+def show(what, clients, sites, members, load):
+    """Runs a load several times, and prints the row of the run from which the host took the least."""
+    share, (count, bytes_read, half, most, _) = min(watched(load) for _ in range(RUNS))
     members = f"{members:,}" if members else "-"
     print(f"{what:<10} {clients:>8} {sites:>6} {members:>8} {count / SECONDS:>11,.0f} {bytes_read / SECONDS / 1e6:>7,.0f} "
-          f"{half / 1e3:>8,.0f} us {most / 1e3:>8,.0f} us", flush=True)
+          f"{half / 1e3:>8,.0f} us {most / 1e3:>8,.0f} us {share:>7.1%}", flush=True)
 
 
 def main():
-    print(f"{'request':<10} {'clients':>8} {'sites':>6} {'members':>8} {'requests/s':>11} {'MB/s':>7} {'50%':>11} {'99%':>11}")
+    print(f"{'request':<10} {'clients':>8} {'sites':>6} {'members':>8} {'requests/s':>11} {'MB/s':>7} {'50%':>11} {'99%':>11} {'stolen':>7}")
     with tempfile.TemporaryDirectory() as room:
         program = compiled_clients(room)
         for clients, sites, members in LOADS:
-            show("penalty" if members is None else "status", clients, sites, members, manager_load(program, clients, sites, members))
+            load = functools.partial(manager_load, program, clients, sites, members)
+            show("penalty" if members is None else "status", clients, sites, members, load)
         if not shutil.which("redis-server", path=f"{os.environ['PATH']}:/usr/sbin"):
             print("bench: redis-server isn't installed: its rows are left out")
             return
         for clients in REDIS_CLIENTS:
-            with redis(room) as port:
-                show("Redis HSET", clients, 1, None, measured(program, "redis", port, 1, clients, SECONDS, "hset"))
+            show("Redis HSET", clients, 1, None, functools.partial(redis_load, program, clients, room))
 
 
 if __name__ == "__main__":

@@ -1,11 +1,12 @@
 """Measures a server with stores, with the clients of tools/load.c on the disk of the system's temporary folder, and prints a table:
 
 - durable adds and removals a second, by 1, 4 and 32 clients of one site; beside it commits of one such row a second by Python's sqlite3 on
-  the same disk, and by Redis with `appendfsync always`, where Debian's redis-server is installed
+  the same disk, and by Redis with `appendfsync always`, where Debian's redis-server is installed; then all of these with syncs that take a
+  millisecond longer, as on slower disks
 - how long a status waits while 32 clients add, and while nobody does
 - how long a site takes to listen that has 16,384 members and 10,000 steps
 
-TMPDIR names another folder. It takes about a minute."""
+TMPDIR names another folder. It takes about two minutes."""
 import concurrent.futures
 import contextlib
 import os
@@ -17,12 +18,13 @@ import sys
 import tempfile
 import time
 
-from program_tests import Failed
+from program_tests import Failed, compiled_refusal
 from server_load import compiled_clients, measured
 from server_tests import BUILT, PATIENCE, free_ports, need
 from store_tests import COLUMNS, MOST_ROWS, rows_of, stored
 
 SECONDS = 3
+SYNC_DELAY = 1_000  # microseconds
 CLIENTS = [1, 4, 32]
 MEMBERS = 16_384
 # The body of a row that adds a member, as long as one of the load.
@@ -35,7 +37,8 @@ def show(what, clients, figures, seconds=SECONDS):
 
 
 def commits():
-    """Commits one row after another by Python's sqlite3, as a site's store has them: with a log, each of which is on the disk."""
+    """Commits one row after another by Python's sqlite3, as a site's store has them: with a log, each of which is on the disk. Returns what
+    `measured` does."""
     times = []
     with tempfile.TemporaryDirectory() as folder, contextlib.closing(sqlite3.connect(f"{folder}/rows.db", isolation_level=None)) as store:
         for it in ("PRAGMA locking_mode = EXCLUSIVE", "PRAGMA journal_mode = WAL", "PRAGMA synchronous = FULL", f"CREATE TABLE step {COLUMNS}"):
@@ -48,9 +51,16 @@ def commits():
     return len(times), 0, times[len(times) // 2], times[len(times) * 99 // 100], times[-1]
 
 
-def durable_adds(program, clients):
+def commits_apart(more):
+    """What `commits` measures in a process of its own, with more words in its environment."""
+    words = [sys.executable, "-B", __file__, "commits"]
+    ran = subprocess.run(words, env={**os.environ, **more}, stdout=subprocess.PIPE, text=True, check=True)
+    return [int(it) for it in ran.stdout.split()]
+
+
+def durable_adds(program, clients, more):
     """How many adds and removals a site with a store answers."""
-    with tempfile.TemporaryDirectory() as folder, stored(folder, 1, 64) as server:
+    with tempfile.TemporaryDirectory() as folder, stored(folder, 1, 64, more=more) as server:
         return measured(program, "manager", server.port, 1, clients, SECONDS, "add", server.user, server.secret)
 
 
@@ -96,11 +106,12 @@ def start_of_a_full_site():
 
 
 @contextlib.contextmanager
-def durable_redis(room):
+def durable_redis(room, more):
     """A Redis that has each change on the disk before it answers, at a port of its own."""
     port = free_ports(1)
     words = ["redis-server", "--port", str(port), "--bind", "127.0.0.1", "--save", "", "--appendonly", "yes", "--appendfsync", "always", "--dir", room]
-    with subprocess.Popen(words, stdout=subprocess.DEVNULL, stderr=subprocess.DEVNULL) as process:
+    environment = {**os.environ, **more}
+    with subprocess.Popen(words, env=environment, stdout=subprocess.DEVNULL, stderr=subprocess.DEVNULL) as process:
         try:
             ends = time.monotonic() + PATIENCE
             while True:
@@ -113,28 +124,41 @@ def durable_redis(room):
             process.terminate()
 
 
+def has_redis():
+    return shutil.which("redis-server", path=f"{os.environ['PATH']}:/usr/sbin") is not None
+
+
+def changes(program, more):
+    """Shows how many changes are done a second, with more words in the environment of each program that does them."""
+    show("commit by Python's sqlite3", 1, commits_apart(more))
+    for clients in CLIENTS:
+        show("add, durable", clients, durable_adds(program, clients, more))
+    for clients in CLIENTS if has_redis() else []:
+        with tempfile.TemporaryDirectory() as folder, durable_redis(folder, more) as port:
+            show("Redis HSET, appendfsync always", clients, measured(program, "redis", port, 1, clients, SECONDS, "hset"))
+
+
 def main():
     need(os.path.exists(BUILT), f"{BUILT} isn't built")
     print(f"{'request':<38} {'clients':>7} {'a second':>9} {'50%':>12} {'99%':>12} {'all':>12}")
-    has_redis = shutil.which("redis-server", path=f"{os.environ['PATH']}:/usr/sbin")
     with tempfile.TemporaryDirectory() as room:
         program = compiled_clients(room)
-        show("commit by Python's sqlite3", 1, commits())
-        for clients in CLIENTS:
-            show("add, durable", clients, durable_adds(program, clients))
-        for clients in CLIENTS if has_redis else []:
-            with tempfile.TemporaryDirectory() as folder, durable_redis(folder) as port:
-                show("Redis HSET, appendfsync always", clients, measured(program, "redis", port, 1, clients, SECONDS, "hset"))
+        changes(program, {})
+        print(f"each sync takes {SYNC_DELAY} us more")
+        changes(program, {"LD_PRELOAD": compiled_refusal(room, "slow_disk"), "SYNC_DELAY": str(SYNC_DELAY)})
         show("status, nobody adds", 1, statuses(program, 0))
         show("status, while 32 clients add", 1, statuses(program, 32))
     rows, listens, answers = start_of_a_full_site()
     print(f"start of a site with {MEMBERS:,} members and {rows:,} rows: it listens after {listens:.2f} s and answers after {answers:.2f} s")
-    if not has_redis:
+    if not has_redis():
         print("store_load: redis-server isn't installed: its rows are left out")
 
 
 if __name__ == "__main__":
     try:
-        main()
+        if sys.argv[1:] == ["commits"]:
+            print(*commits())
+        else:
+            main()
     except Failed as why:
         sys.exit(f"store_load: {why}")
