@@ -30,8 +30,8 @@ const MOST_FILES: usize = 64;
 // The least number of bytes of the secret that sites share.
 const LEAST_LINK_SECRET: usize = 16;
 
-// Why a user, a secret or a greeting is refused, and why the secret of links is.
-const BAD_TEXT: &str = "bad text";
+// Why a secret is refused, of clients and of links.
+const BAD_SECRET: &str = "bad secret";
 
 const BAD_LINK_SECRET: &str = "bad link secret";
 
@@ -451,17 +451,17 @@ fn secret_of<R: Files>(rt: &R, word: SecretWord<'_>) -> Result<Text80, Refusal> 
         },
     };
     let Some(secret) = secret else {
-        return Err(Refusal::Wrong(BAD_TEXT));
+        return Err(Refusal::Wrong(BAD_SECRET));
     };
     if is_login_word(&secret) {
         Ok(secret)
     } else {
-        Err(Refusal::Wrong(BAD_TEXT))
+        Err(Refusal::Wrong(BAD_SECRET))
     }
 }
 
 // The settings of sessions. Refused, in order: a number of places that isn't 1 to 64 (clap lets none through); the secret's file; the
-// secret; user or greeting.
+// secret; the user; the greeting.
 fn session_settings<R: Files>(rt: &R, words: &SessionWords<'_>) -> Result<SessionSettings, Refusal>
     ensures { IfOk result (λ it. it.places ≡ words.now.places) }
 {
@@ -469,26 +469,27 @@ fn session_settings<R: Files>(rt: &R, words: &SessionWords<'_>) -> Result<Sessio
         return Err(Refusal::Wrong("bad number of sessions"));
     };
     let secret = secret_of(rt, words.secret)?;
-    match settings_with(words, places, secret) {
-        Some(settings) => Ok(settings),
-        None => Err(Refusal::Wrong(BAD_TEXT)),
-    }
-}
-
-// The settings of sessions with this number of places and this secret. 0 seconds of silence are without end; the patience is the limit of a
-// login and of a write. `None`: user or greeting is refused.
-fn settings_with(
-    words: &SessionWords<'_>,
-    places: PlaceCount,
-    secret: Text80,
-) -> Option<SessionSettings>
-    ensures { IfSome result (λ it. it.places ≡ places) }
-{
-    let mut session = SessionSettings::new(login_text(words.user)?, secret);
+    let Some(user) = login_text(words.user) else {
+        drop(secret);
+        return Err(Refusal::Wrong("bad user"));
+    };
+    let mut session = SessionSettings::new(user, secret);
     session.places = places;
     if let Some(greeting) = words.greeting {
-        session.greeting = Some(Text80::new(greeting.as_bytes()).ok()?);
+        let Ok(greeting) = Text80::new(greeting.as_bytes()) else {
+            drop(session);
+            return Err(Refusal::Wrong("bad greeting"));
+        };
+        session.greeting = Some(greeting);
     }
+    limit_session(words, &mut session);
+    Ok(session)
+}
+
+// Sets the limits of a session. 0 seconds of silence are without end; the patience is the limit of a login and of a write.
+fn limit_session(words: &SessionWords<'_>, session: &mut SessionSettings)
+    ensures { session.new.places ≡ session.old.places }
+{
     session.idle = match words.idle {
         0 => None,
         seconds => Some(Duration::from_secs(seconds)),
@@ -496,7 +497,6 @@ fn settings_with(
     session.login = Duration::from_secs(words.patience);
     session.write = Duration::from_secs(words.patience);
     session.is_verbose = words.is_verbose;
-    Some(session)
 }
 
 // The settings of the sites that these words serve at this address. Refused, in order: what `session_settings` refuses; a number of sites

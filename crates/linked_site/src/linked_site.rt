@@ -3,6 +3,7 @@ ghost use Rattle.std.specs.Prelude.{◌≡◌, IfOk};
 ghost use Rattle.site_peers.specs.Links.{links_card, links_key};
 ghost use Rattle.linked_site.specs.Cards.{card_of};
 
+use crate::tasks::accepting_tasks;
 use crate::{LinkSettings, LinkedSiteFault};
 use link_hello::{Card, queues_digest};
 use peer_box::BOX_BYTES;
@@ -13,6 +14,12 @@ use site_peers::{EndReason, LinkLog, PeerLinks, Ring, end_links};
 use std::alloc::Global;
 use std::net::{Net, TcpListener, TcpStream};
 use std::sync::Wait;
+use std::sync::atomic::{AtomicU64, Ordering};
+use std::thread;
+use std::time::{Clock, Duration};
+
+// The time between two wakes of threads that accept, in milliseconds.
+const WAKE_MILLIS: u64 = 50;
 
 // The bell of a linked site, and its clients, whose sessions end with it.
 #[derive(Drop)]
@@ -40,6 +47,8 @@ pub(crate) struct LinkedSite {
     pub links: PeerLinks<SiteRing>,
     // Where links are accepted.
     pub heard: TcpListener,
+    // How many of its threads that accept clients or links have not ended.
+    pub accepting: AtomicU64,
 }
 
 // The card of this site: its number and its queues, and the store and the start that its settings name.
@@ -68,6 +77,7 @@ impl LinkedSite {
         ensures card { IfOk result (λ site. links_card site.links ≡ card_of replica.now links) }
         ensures key { IfOk result (λ site. links_key site.links ≡ links.key) }
     {
+        let accepting = AtomicU64::new(accepting_tasks(settings.session.places, links.peers.len()));
         let own = match heard.local_addr() {
             Ok(own) => own,
             Err(error) => {
@@ -89,7 +99,11 @@ impl LinkedSite {
         let card = card_of(replica, &links);
         let LinkSettings { key, peers, .. } = links;
         match PeerLinks::new(alloc, card, key, own, ring, peers, BOX_BYTES) {
-            Ok(links) => Ok(LinkedSite { links, heard }),
+            Ok(links) => Ok(LinkedSite {
+                links,
+                heard,
+                accepting,
+            }),
             Err(_) => {
                 drop(heard);
                 Err(LinkedSiteFault::Memory)
@@ -105,6 +119,27 @@ impl LinkedSite {
     // The bell of the thread that makes its frames.
     pub fn bell(&self) -> &SiteBell {
         &self.links.bell().bell
+    }
+
+    // Notes that a thread has ended that accepts clients or links: each calls it once.
+    pub fn end_accepting(&self) {
+        let _ = self.accepting.fetch_sub(1, Ordering::SeqCst);
+    }
+
+    // Ends the site as `end` does, again each 50 ms until no thread accepts any more: a wake fails where no file is left.
+    pub fn end_accepting_threads<R: Net<Listener = TcpListener, Stream = TcpStream> + Wait + Clock>(
+        &self,
+        rt: &R,
+        alloc: Global,
+    ) {
+        let pause = Duration::from_millis(WAKE_MILLIS);
+        for _ in rt.forever() {
+            self.end(rt, alloc, EndReason::Asked);
+            if self.accepting.load(Ordering::SeqCst) == 0 {
+                return;
+            }
+            thread::sleep(rt, pause);
+        }
     }
 
     // Where the events of its links are logged.

@@ -10,8 +10,8 @@ pub enum LinkedSiteFault {
     /// The system gives no random bytes.
     #[error("no random bytes")]
     NoRandom,
-    /// The system doesn't say at which address links are accepted; this is its reason.
-    #[error("no address for links: {0}")]
+    /// The system doesn't say at which address clients or links are accepted; this is its reason.
+    #[error("no own address: {0}")]
     NoAddress(io::Error),
     /// A thread couldn't be started.
     #[error("no thread")]

@@ -124,10 +124,19 @@ impl<R: Net<Listener = TcpListener, Stream = TcpStream> + Wait + Clock + RandomS
     ) -> TaskEnd<L, Option<EndReason>> {
         let mut pass = pass;
         match self {
-            LinkedTask::Answer => pass = answer_by(rt, alloc, shared, desk, pass),
-            LinkedTask::Spread => spread_by(rt, alloc, shared, desk, &mut pass),
+            LinkedTask::Answer => {
+                pass = answer_by(rt, alloc, shared, desk, pass);
+                shared.end_accepting();
+            }
+            LinkedTask::Spread => {
+                spread_by(rt, alloc, shared, desk, &mut pass);
+                shared.end_accepting_threads(rt, alloc);
+            }
             LinkedTask::Dial(place) => dial(rt, alloc, shared, place),
-            LinkedTask::Hear => hear_by(rt, alloc, shared, desk, &mut pass),
+            LinkedTask::Hear => {
+                hear_by(rt, alloc, shared, desk, &mut pass);
+                shared.end_accepting();
+            }
             LinkedTask::Save => save_to_the_end(rt, alloc, shared, desk),
         }
         let output = shared.links.ending().reason(rt);

@@ -36,6 +36,12 @@ impl TaskOutput for LinkedTask {
     ghost gives = { λ task site names old output new. ⊤ };
 }
 
+// How many tasks of a site accept clients or links.
+pub(crate) fn accepting_tasks(places: PlaceCount, peers: usize) -> u64 {
+    let hearing = (peers as u64).saturating_add(MORE_HEARING as u64);
+    u64::from(answering_threads(places)).saturating_add(hearing)
+}
+
 // The tasks of a site with this number of places and of peers. With a store one `saves`. It fails only when out of
 // memory.
 pub(crate) fn tasks_of(

@@ -53,14 +53,15 @@ impl<'a, R: Wait, D: Desk<R>> Desk<R> for RingingDesk<'a, D> {
 
     /// The answer of its own desk, at which it may ring. If that removed a member, the bell notes it.
     ///
-    /// `DeskDown`: that desk gives no answer, and nothing rings.
+    /// `DeskDown`: that desk gives no answer. The bell rings, since the ask may be done.
     fn ask(&mut self, rt: &R, asked: Ask) -> Result<Answer, DeskDown> {
         let removes = matches!(asked, Ask::Command(Command::Remove { .. }));
         let answered = self.desk.ask(rt, asked);
         match &answered {
             Ok(Answer::Done) if removes => self.bell.ring_with_room(rt),
             Ok(answer) if rings(answer) => self.bell.ring(rt),
-            _ => {}
+            Ok(_) => {}
+            Err(_) => self.bell.ring(rt),
         }
         answered
     }

@@ -103,11 +103,16 @@ fn send_by<D: StepStore, L: StoredLedger, R: Wait + Clock>(
     send_news(rt, alloc, site, desk, port, links, true);
 }
 
-// Logs why a frame of a peer ends a site: the store of a site is older than what other sites know of that site.
+// Logs why a frame of a peer ends a site: the store of the site is older than what other sites know of it (`NotMine`), or a number was used
+// twice, maybe another site's.
 fn log_end<R: Wait>(rt: &R, alloc: Global, site: &Site, peer: SiteId, fault: TakeFault) {
     let (site_number, peer) = (site.number.number(), peer.number());
+    let cause = match fault {
+        TakeFault::NotMine => "rolled back: ",
+        _ => "",
+    };
     let line = format!(in alloc;
-        "queue_sites: site {site_number}: ends: rolled back: a frame of site {peer}: {fault}"
+        "queue_sites: site {site_number}: ends: {cause}a frame of site {peer}: {fault}"
     );
     site.clients.events().add(rt, line);
 }

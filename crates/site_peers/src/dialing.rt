@@ -15,6 +15,7 @@ use ami_text::StdSink;
 use link_hello::{HelloFault, LinkKeys, Refusal};
 use link_stream::{ItemSender, SendFault};
 use std::alloc::Global;
+use std::io::ErrorKind;
 use std::net::{Net, TcpListener, TcpStream, ToSocketAddrs};
 use std::random::RandomSource;
 use std::sync::Wait;
@@ -36,9 +37,9 @@ pub enum DialFault {
     /// The host's name or number leads to no address.
     #[error("no such address")]
     NoAddress,
-    /// None of the host's first 4 addresses accepts a connection within 2 seconds.
-    #[error("cannot connect")]
-    CannotConnect,
+    /// None of the host's first 4 addresses accepts a connection within 2 seconds; this is the kind of the last one's error.
+    #[error("cannot connect: {0}")]
+    CannotConnect(ErrorKind),
     /// The system gives no random bytes or no clock, or doesn't prepare the stream.
     #[error("not prepared")]
     NotPrepared,
@@ -67,16 +68,18 @@ fn connect<R: Net<Listener = TcpListener, Stream = TcpStream>>(
     };
     let wait = Duration::from_millis(CONNECT_MILLIS);
     let mut tried: usize = 0;
+    let mut fault = DialFault::NoAddress;
     for address in addresses {
         if tried >= MOST_ADDRESSES {
             break;
         }
         tried = tried.saturating_add(1);
-        if let Ok(stream) = TcpStream::connect_timeout(rt, &address, wait) {
-            return Ok(stream);
+        match TcpStream::connect_timeout(rt, &address, wait) {
+            Ok(stream) => return Ok(stream),
+            Err(error) => fault = DialFault::CannotConnect(error.kind()),
         }
     }
-    Err(DialFault::CannotConnect)
+    Err(fault)
 }
 
 // Runs the hello over a stream that was dialed, for which the peer has 3 seconds. Errors, in order: `NotPrepared`; `Hello`, those of

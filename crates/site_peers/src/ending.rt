@@ -16,7 +16,7 @@ pub enum EndReason {
     NotMine,
     /// Another site has other values under the number of a change that this site knows: the number was used twice, as where a store was
     /// lost.
-    #[error("another site has other values under the number of a change of this site")]
+    #[error("another site has other values under the number of a change that this site knows")]
     Conflict,
     /// A peer knows another store with this site's number.
     #[error("the site number belongs to another store")]
