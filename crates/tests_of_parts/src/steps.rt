@@ -410,7 +410,7 @@ fn a_full_site_writes_and_counts_no_more(rt: HostRuntime) {
 # A full site writes and counts no more.
 queues sales
 knows ADD_2_2 LAST_ADD LAST_RING ODD_3_65537
-# Its time is the last too, but a full site is told first.
+# Its time is the last too, but a full site is reported first.
 0 penalty - SIP/1 1: refused MembersFull
 0 ring - SIP/1 yes: refused MembersFull
 0 completed sales: refused MembersFull
@@ -426,7 +426,7 @@ fn a_full_buffer_is_cut_before_an_add(rt: HostRuntime) {
 queues sales
 knows REMOVE_3_2 LAST_COUNT ODD_3_65536
 buffer ODD_3_65536
-# Its count is the last too, but a full buffer is told first.
+# Its count is the last too, but a full buffer is reported first.
 0 add sales SIP/2 0: refused MembersFull
 0 cut: frame 1
 0 add sales SIP/2 0: refused Exhausted
@@ -459,7 +459,7 @@ fn a_site_takes_as_many_dots_as_it_may_see(rt: HostRuntime) {
 queues sales
 frame ODD_2_65537 MANY_16385
 frame MANY_16384
-# Its runs are too many too, but the dots are told first.
+# Its runs are too many too, but the dots are reported first.
 0 take 0: cells full
 0 take 1: taken
 0 completed sales: done

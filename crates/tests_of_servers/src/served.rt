@@ -395,7 +395,7 @@ fn a_session_is_served_over_a_slice_and_a_vector(rt: HostRuntime) {
 // Serves a session over a reader and a writer of std's that take no memory, and prints how it ended; tools/memory_tests.py
 // runs this test with each allocation refused in turn.
 #[test]
-fn a_session_that_lacks_memory_ends_or_tells_so(rt: HostRuntime) {
+fn a_session_that_lacks_memory_ends_or_replies_so(rt: HostRuntime) {
     let alloc = rt.alloc();
     let mut desk = desk(&rt, alloc);
     let room = Vec::with_capacity(alloc, 1_024).expect(&rt, "memory");

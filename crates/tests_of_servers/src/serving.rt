@@ -15,7 +15,7 @@ use std::time::{Clock, Duration};
 pub const HERE: Ipv4Addr = Ipv4Addr::LOCALHOST;
 
 /// A short time limit for a client, in milliseconds.
-pub const SHORT: u64 = 300;
+pub const SHORT: u64 = 1_000;
 
 /// How long clients may take.
 #[derive(Clone, Copy)]

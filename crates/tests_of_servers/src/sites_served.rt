@@ -80,7 +80,7 @@ where
 }
 
 #[test]
-fn what_one_site_is_told_the_other_shows(rt: HostRuntime) {
+fn what_one_site_adds_the_other_shows(rt: HostRuntime) {
     let alloc = rt.alloc();
     let ends = served_to(&rt, alloc, 24_300, 2, Limit::Usual, 1, Clients::OfTwoSites);
     assert!(rt; ends.len() == 2);
@@ -190,7 +190,7 @@ where
 }
 
 #[test]
-fn the_log_tells_who_listens(rt: HostRuntime) {
+fn the_log_names_each_listener(rt: HostRuntime) {
     let alloc = rt.alloc();
     let port = free_port(&rt, 24_380, 2);
     assert!(rt; 0 < port && port < LAST_PORT);

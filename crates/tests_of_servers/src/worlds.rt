@@ -158,7 +158,7 @@ fn assert_outcomes(
 }
 
 #[test]
-fn events_at_no_site_and_of_no_entry_are_told(rt: HostRuntime) {
+fn events_at_no_site_and_of_no_entry_have_outcomes(rt: HostRuntime) {
     const NOBODY: Came = Reported(&[QUEUE]);
     const EVENTS: &[Told] = &[
         (5, Add("SIP/1", 0), NoSite),

@@ -37,7 +37,7 @@ pub(crate) fn assert_closed<L: SiteLedger>(
     drop(journal);
 }
 
-// Closes a desk with both of its passes, and asserts that the receipts of these settle its journal, which has so many steps.
+// Closes a desk with both of its passes, and asserts that the receipts of these settle its journal, which has `count` steps.
 pub(crate) fn assert_settled<L: SiteLedger>(
     rt: &impl Abort,
     alloc: Global,

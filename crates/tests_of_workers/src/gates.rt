@@ -8,7 +8,7 @@ use std::thread;
 // As many turns as a test waits for what should come.
 pub(crate) const MANY_TURNS: u32 = 10_000_000;
 
-// Whether a number comes to be so great within so many turns.
+// Whether a number is at least `wanted` within `turns` turns.
 pub(crate) fn comes(number: &AtomicU64, wanted: u64, turns: u32) -> bool {
     for _ in 0..turns {
         if number.load(Ordering::SeqCst) >= wanted {

@@ -121,7 +121,7 @@ fn as_many_items_wait_as_the_link_holds_and_then_it_ends(rt: HostRuntime) {
     receive_numbers(&rt, receiver);
 }
 
-// Sends three items, and tells the number of each before it is sent.
+// Sends three items, and stores the number of each before it is sent.
 fn send_three<R: Abort + Wait>(rt: &R, alloc: Global, sender: LinkSender, begun: &AtomicU64) {
     let mut sender = sender;
     for item in 0..3u8 {
@@ -131,13 +131,14 @@ fn send_three<R: Abort + Wait>(rt: &R, alloc: Global, sender: LinkSender, begun:
     drop(sender);
 }
 
-// Receives three items, some turns after the second of them is sent.
+// Receives three items, some turns after the second of them is to be sent, which waits until then.
 fn receive_late<R: Abort + Wait>(rt: &R, receiver: LinkReceiver, begun: &AtomicU64) {
     let mut receiver = receiver;
     assert!(*rt; comes(begun, 1, MANY_TURNS));
     for _ in 0..65_536u32 {
         thread::yield_now();
     }
+    assert!(*rt; begun.load(Ordering::SeqCst) == 1);
     for item in 0..3u8 {
         receive(rt, &mut receiver, &[item]);
     }

@@ -30,7 +30,7 @@ fn assert_fills_two<L: SiteLedger, R: Abort + Wait>(
     drop(port);
 }
 
-// A port answers as its desk, which goes on behind a checkpoint, upon a journal of two steps.
+// A port answers as its desk, which goes on after a checkpoint, with a journal of two steps.
 pub(crate) fn assert_answers<L: SiteLedger, R: Abort + Wait>(
     rt: &R,
     alloc: Global,
@@ -72,7 +72,7 @@ struct Taken {
     end: PumpedIn,
 }
 
-// What a pump takes of a link upon which a frame was sent, and then an item, and the frame again.
+// What a pump takes of a link over which a frame was sent, and then an item, and the frame again.
 fn pumped<L: SiteLedger, R: Abort + Wait>(
     rt: &R,
     alloc: Global,

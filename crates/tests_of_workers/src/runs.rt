@@ -248,7 +248,7 @@ fn sites_come_to_the_same_whatever_is_lost(rt: HostRuntime) {
     drop(journals);
 }
 
-// What comes of a number of works without asks.
+// The fault of a run of a number of works without asks, if it has one.
 fn fault_of<R: Abort + Threads + Wait + Sync>(
     rt: &R,
     alloc: Global,
@@ -341,7 +341,7 @@ fn is_any_stopped(rt: &impl Abort, ends: &[SiteEnd<TurnsGate>]) -> bool {
     is_any
 }
 
-// Whether there is memory for an audit, which then tells that journals are one run.
+// Whether there is memory for an audit, which then shows that journals are one run.
 fn is_audited(rt: &impl Abort, alloc: Global, journals: &[Journaled]) -> bool {
     let fault = audit_fault(alloc, journals);
     assert!(*rt; matches!(fault, None | Some(AuditFault::Memory)));

@@ -92,7 +92,7 @@ fn pumped<L: SiteLedger, R: Abort + Wait>(
     pumped
 }
 
-// Puts the next item of a link behind others, and tells whether there was one.
+// Puts the next item of a link behind others, and returns whether there was one.
 fn receive_behind<R: Abort + Wait>(
     rt: &R,
     receiver: &mut LinkReceiver,

@@ -219,9 +219,7 @@ fn a_row_that_the_site_does_not_do_is_damaged(rt: HostRuntime) {
     drop(more);
     assert_fault(&rt, alloc, 0, rows, JournalFault::Damaged(3));
     let mut rows = added_rows(&rt, alloc);
-    let mut start = start_row(&rt, alloc);
-    drop(start);
-    start = StoredRow::new(
+    let start = StoredRow::new(
         1,
         RowKind::Started.number(),
         dots::Bytes::new(Vec::new(alloc)),

@@ -148,7 +148,7 @@ fn frames_are_sent_as_the_plan_says_and_before_the_next_ring(rt: HostRuntime) {
     assert_schedule(&rt, alloc, &[Lose], &[0, 0, 0, 0, 0], &[5]);
 }
 
-// Asserts what a pump with this plan sends that finds a journal of so many steps full behind so many cuts, and when.
+// Asserts what a pump with this plan sends that finds a journal of `limit` steps full after `cuts` cuts, and when.
 fn assert_stops<R: Abort + Threads + Wait + Sync>(
     rt: &R,
     alloc: Global,

@@ -108,7 +108,7 @@ fn shows<L: SiteLedger, R: Wait>(
     shows
 }
 
-// Adds a member after this time, and waits up to 20 seconds until the site shows this number of members, and then 2 seconds more, so that
+// Adds a member after this time, and waits up to 20 seconds until the site shows this number of members, and then 6 seconds more, so that
 // the other site does too.
 fn add_and_wait<L: SiteLedger, R: Wait + Clock>(
     rt: &R,
@@ -128,7 +128,7 @@ fn add_and_wait<L: SiteLedger, R: Wait + Clock>(
     shared.links.bell().ring(rt);
     for _ in 0..200u32 {
         if shows(rt, alloc, desk, pass, members) {
-            thread::sleep(rt, Duration::from_millis(2_000));
+            thread::sleep(rt, Duration::from_millis(6_000));
             return true;
         }
         thread::sleep(rt, Duration::from_millis(100));
