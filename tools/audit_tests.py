@@ -173,10 +173,10 @@ def audited(paths, **how):
     return reported(["audit", *paths], paths, **how)
 
 
-def refuses(words, paths, told):
+def refuses(words, paths, cause):
     """The program must refuse these files with status 1 and this line, and write nothing else."""
     ran = reported(words, paths)
-    wanted = f"queue_sites: {told}\n".encode()
+    wanted = f"queue_sites: {cause}\n".encode()
     expect((ran.returncode, ran.stdout, ran.stderr) == (1, b"", wanted), f"it doesn't end with status 1 and {wanted!r} alone", ran)
 
 
@@ -188,6 +188,7 @@ def names(ran, pattern):
 
 STUCK = rb"queue_sites: site \d+, step \d+: no event gives this step: [^\n]+\n"
 DAMAGED = rb"queue_sites: store [^\n]+: row \d+[^\n]*\n"
+OF_ROW = re.compile(rb"queue_sites: store [^\n]+/site-(\d+)\.db: row (\d+)(?:: | is )")
 NAMED = STUCK + b"|" + DAMAGED + rb"|queue_sites: store [^\n]+: damaged file\n"
 
 
@@ -296,15 +297,13 @@ def run_of_links(room, seed, sites=3, turns=4):
         return until_same([(mesh.sites[site], 0) for site in range(sites)])
 
 
-def check_explained(folder, sites, report=None, unsaid=0):
+def check_explained(folder, sites, report=None):
     """Needs that an audit of the stores in a folder gives one list of events, and that its script gives what the stores say, and then the report
     that each site showed. Returns how many steps there are."""
     paths = paths_of(folder, sites)
     random.Random(sites).shuffle(paths)
     ran = audited(paths)
-    told = b"queue_sites: %d events are comments: no line of a script says them\n" % unsaid if unsaid else b""
-    expect((ran.returncode, ran.stderr) == (0, told), f"no list of events explains a run; standard error should be {told!r}", ran)
-    need(unsaid == 0, "the script of events that lines can't say isn't run")
+    expect((ran.returncode, ran.stderr) == (0, b""), "no list of events explains a run", ran)
     output, count = expected_output(folder, sites, ran.stdout)
     script = ran.stdout + b"".join(b"%d ami Action: QueueStatus\n" % site for site in range(sites))
     whole = output + (report or b"") * sites
@@ -431,12 +430,14 @@ def changed_bytes(number=SOME_BYTES):
         count = check_explained(plain, 2, report)
         jobs = []
         for site, place in places_of(rows, STEPS):
-            body = rows[site][place][3]
+            position, body = rows[site][place][0], rows[site][place][3]
             for at in sorted(lot.sample(range(len(body)), min(number or len(body), len(body)))):
                 other = body[:at] + bytes([body[at] ^ 1 << lot.randrange(8)]) + body[at + 1:]
-                jobs.append(threads.submit(audit_changed, room, rows, site, place, other, len(jobs)))
-        for job in jobs:
+                jobs.append((site, position, threads.submit(audit_changed, room, rows, site, place, other, len(jobs))))
+        for site, position, job in jobs:
             ends.append(names(job.result(), NAMED))
+            named = OF_ROW.match(job.result().stderr)
+            need(not named or (int(named[1]) == site and int(named[2]) >= position), f"site {site}, row {position}: {job.result().stderr!r}")
     return f"{len(ends)} changed bytes of {count} steps: {ends.count(4)} steps that no event gives, {ends.count(1)} rows that are damaged"
 
 
@@ -449,7 +450,7 @@ def changed_answers():
         for number, (site, place, answer) in enumerate(changes):
             position, body = rows[site][place][0], rows[site][place][3]
             ran = audit_changed(room, rows, site, place, body[:-1] + bytes([answer]), number)
-            names(ran, b"queue_sites: store [^\n]+/site-%d.db: row %d[^\n]*\n" % (site, position))
+            names(ran, b"queue_sites: store [^\n]+/site-%d.db: row %d(?:: | is )[^\n]*\n" % (site, position))
     return f"{len(changes)} changed answers, each of which is named"
 
 
@@ -501,11 +502,11 @@ def refused_stores():
             write("later", [(it[0] + 7, *it[1:]) for it in rows]): NOT_FROM_START,
             write("behind", rows[1:]): "base: no base",
         }
-        for path, told in bad.items():
-            refuses(["audit", path], [path], f"store {path}: {told}")
-            refuses(["audit", paths[1], path, missing], [paths[1], path], f"store {path}: {told}")
-            if told not in (NOT_FROM_START, "base: no base"):
-                refuses(["steps", path], [path], f"store {path}: {told}")
+        for path, cause in bad.items():
+            refuses(["audit", path], [path], f"store {path}: {cause}")
+            refuses(["audit", paths[1], path, missing], [paths[1], path], f"store {path}: {cause}")
+            if cause not in (NOT_FROM_START, "base: no base"):
+                refuses(["steps", path], [path], f"store {path}: {cause}")
         refuses(["audit", paths[0], paths[1], paths[0]], paths, TWICE.format(0))
         refuses(["audit", paths[1]], paths, MISSING.format(0))
         with tempfile.TemporaryDirectory() as other:
@@ -516,23 +517,37 @@ def refused_stores():
         with contextlib.closing(sqlite3.connect(f"{room}/notes.db")) as notes:
             notes.execute("CREATE TABLE note (id INTEGER PRIMARY KEY, title TEXT)")
         refuses(["audit", f"{room}/notes.db"], [], f"store {room}/notes.db: no store")
-        # A flipped bit of a page of a store with checksums.
-        whole = read(paths[0])
-        if len(whole) > 4_096:
-            flipped = file("flipped", whole[:5_000] + bytes([whole[5_000] ^ 1]) + whole[5_001:])
-            refuses(["audit", flipped], [flipped], f"store {flipped}: damaged file")
+        # A flipped bit of a page of a store with checksums, in the file of which are pages after this many changes.
+        os.mkdir(f"{room}/many")
+        with keeping(f"{room}/many", 1) as server:
+            fill(server, 0, 1_200)
+            server.stop()
+        whole = read(f"{room}/many/site-0.db")
+        need(len(whole) > 8_192, f"the file of a store has {len(whole)} bytes")
+        flipped = file("flipped", whole[:5_000] + bytes([whole[5_000] ^ 1]) + whole[5_001:])
+        refuses(["audit", flipped], [flipped], f"store {flipped}: damaged file")
         need(base[2] == BASE, "a store doesn't begin with a base")
     return f"{len(bad)} files that are no stores, and stores that aren't those of all sites"
 
 
+def rests(folder):
+    """Waits until the site of a folder has cut its last change, and its files stay as they are."""
+    ends, before = time.monotonic() + PATIENCE, None
+    while (now := state_of(paths_of(folder, 1))) != before:
+        need(time.monotonic() < ends, "a site that nobody asks writes on")
+        before = now
+        time.sleep(1)
+
+
 def copies_in_use():
-    """A store is read while its site has it open, and is left as it is; a copy of both files is read as the files are."""
+    """A store is read while its site has it open, and is left as it is; a copy of both files is read as the files are, also where a link leads to
+    them."""
     with tempfile.TemporaryDirectory() as folder, tempfile.TemporaryDirectory() as room:
         with keeping(folder, 1) as server:
             with server.logged_in() as client:
                 for number in range(5):
                     client.succeed("QueueAdd", Queue="sales", Interface=f"SIP/{number}")
-            time.sleep(0.5)  # the last change is cut
+            rests(folder)
             copy = copied(folder, room, "copy")
             report = shown(server)
             used, copies = audited(paths_of(folder, 1)), audited(paths_of(copy, 1))
@@ -546,7 +561,10 @@ def copies_in_use():
             os.chmod(f"{copy}/{name}", 0o444)
         after = audited(paths_of(copy, 1))
         expect(after.stdout == before.stdout, "files that may not be written are read otherwise", after)
-    return "a store that its site has open, and its copy"
+        os.symlink(paths_of(copy, 1)[0], f"{room}/link.db")
+        linked = audited([f"{room}/link.db"])
+        expect(linked.stdout == before.stdout, "files to which a link leads are read otherwise", linked)
+    return "a store that its site has open, its copy, and a link to it"
 
 
 def unsaid_events():
@@ -558,8 +576,8 @@ def unsaid_events():
                     client.succeed("QueueAdd", Queue="sales", Interface=f"SIP/{number}", MemberName=name)
             server.stop()
         ran = audited(paths_of(folder, 1))
-        told = b"queue_sites: 2 events are comments: no line of a script says them\n"
-        expect((ran.returncode, ran.stderr) == (0, told), f"standard error isn't {told!r}", ran)
+        line = b"queue_sites: 2 events are comments: no line of a script says them\n"
+        expect((ran.returncode, ran.stderr) == (0, line), f"standard error isn't {line!r}", ran)
         found = [it for it in ran.stdout.splitlines() if re.match(rb"# 0 ami Action: QueueAdd\|", it)]
         expect(len(found) == 2 and all(b"A|B" in it or b"C|D" in it for it in found), f"the comments are {found!r}", ran)
         listed = reported(["steps", *paths_of(folder, 1)], paths_of(folder, 1))
@@ -625,7 +643,7 @@ def refused_allocations(number=SOME_ALLOCATIONS):
         run_refusing = refusing(room)
         if not run_refusing:
             return "nothing was refused: there is no C compiler here"
-        folder, told = f"{room}/stores", []
+        folder, lines = f"{room}/stores", []
         os.mkdir(folder)
         short_run(folder, "a", 1)
         paths = paths_of(folder, 2)
@@ -642,8 +660,8 @@ def refused_allocations(number=SOME_ALLOCATIONS):
                 expect((ran.returncode, ran.stderr) == wanted, f"it doesn't say that it is out of memory where allocation {it} is refused", ran)
                 expect(whole.stdout.startswith(ran.stdout), f"it wrote no prefix of the output where allocation {it} is refused", ran)
             need(ended >= 9 * len(tried) / 10, f"only {ended} of {len(tried)} refused allocations end {words[0]}")
-            told.append(f"{len(tried)} of the {allocations} allocations of {words[0]}, of which {ended} ended it")
-    return f"refused: {', and '.join(told)}"
+            lines.append(f"{len(tried)} of the {allocations} allocations of {words[0]}, of which {ended} ended it")
+    return f"refused: {', and '.join(lines)}"
 
 
 def steps_at_the_limit(most=1_000_000):
@@ -695,14 +713,14 @@ def load_until(folder, sites, steps, room):
 
 def measured(words, out):
     """Runs the program with its output in a file. Returns its status, its standard error, its seconds and the most memory that it had."""
-    with open(out, "wb") as written, tempfile.TemporaryFile() as told:
+    with open(out, "wb") as written, tempfile.TemporaryFile() as errors:
         started = time.monotonic()
-        process = subprocess.Popen([BUILT, *words], stdin=subprocess.DEVNULL, stdout=written, stderr=told)
+        process = subprocess.Popen([BUILT, *words], stdin=subprocess.DEVNULL, stdout=written, stderr=errors)
         _, status, used = os.wait4(process.pid, 0)
         process.returncode = os.waitstatus_to_exitcode(status)
         seconds = time.monotonic() - started
-        told.seek(0)
-        return process.returncode, told.read(), seconds, used.ru_maxrss * 1024
+        errors.seek(0)
+        return process.returncode, errors.read(), seconds, used.ru_maxrss * 1024
 
 
 def figures(sites=8, steps=MANY_STEPS):
@@ -710,8 +728,8 @@ def figures(sites=8, steps=MANY_STEPS):
     with tempfile.TemporaryDirectory() as folder, tempfile.TemporaryDirectory() as room:
         load_until(folder, sites, steps, room)
         counts = [len(steps_of(folder, site)) for site in range(sites)]
-        status, told, seconds, most = measured(["audit", *paths_of(folder, sites)], f"{room}/events")
-        need((status, told) == (0, b""), f"an audit of many steps ends with status {status}, and says {told!r}")
+        status, errors, seconds, most = measured(["audit", *paths_of(folder, sites)], f"{room}/events")
+        need((status, errors) == (0, b""), f"an audit of many steps ends with status {status}, and says {errors!r}")
         events = sum(not it.startswith(b"#") for it in read(f"{room}/events").splitlines())
         need(events == sum(counts), f"{sum(counts):,} steps have {events:,} events")
         size = os.path.getsize(f"{room}/events")

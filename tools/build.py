@@ -206,7 +206,7 @@ def new_log():
         yield log
 
 
-def told(log):
+def output_of(log):
     log.seek(0)
     return log.read()
 
@@ -215,7 +215,7 @@ def prove(wanted):
     """Proves crates and what they stand on. Returns whether that succeeded, and lines that report the time of each."""
     with new_log() as log:
         is_proved = Build(wanted, log, Progress("test", 0)).prove()
-        text = told(log)
+        text = output_of(log)
     if not is_proved:
         print(text, end="")
     return is_proved, [f"    {line[3:]}" for line in text.splitlines() if line.startswith("== ")]
@@ -225,13 +225,13 @@ def main():
     name = sys.argv[1]
     for it in (signal.SIGINT, signal.SIGTERM, signal.SIGHUP):
         signal.signal(it, lambda *_: sys.exit(130))
-    hint = "; ./queue_sites preview .. runs it unproved in one to three" if name == "queue_sites" else ""
+    hint = "; ./queue_sites preview .. runs it unproved in one to three" if name in ("queue_sites", "queue_script") else ""
     print(f"{name}: proving and building the program; this takes some minutes, once{hint}", file=sys.stderr)
     with new_log() as log:
         build = Build(below(all_crates(), name), log, Progress(name, 1))
         is_built = build.prove() and build.make(name)
         if not is_built:
-            sys.stderr.write(told(log))
+            sys.stderr.write(output_of(log))
             print(f"{name}: the program could not be built", file=sys.stderr)
             return 1
     print(f"{name}: built ({clock(time.monotonic() - build.progress.started)})", file=sys.stderr)

@@ -6,7 +6,7 @@
 
 A case is files of one stem. Its kind is the ending of the first, and decides which program runs it:
 
-    STEM.script                standard input of queue_sites
+    STEM.script                standard input of queue_script
     STEM.session               standard input of test_program session
     STEM.frames                standard input of test_program frames
     STEM.steps                 standard input of test_program journal, or desk
@@ -41,7 +41,7 @@ class Kind(NamedTuple):
 
 
 KINDS = {
-    "script": Kind("queue_sites", [], ["script", "1", "sales"]),
+    "script": Kind("queue_script", [], ["script", "1", "sales"]),
     "session": Kind("test_program", ["session"], ["1024", "", "", "sales"]),
     "frames": Kind("test_program", ["frames"], []),
     "steps": Kind("test_program", [], ["journal", "0", "20", "sales"]),
@@ -96,8 +96,8 @@ def failure_of(case, program):
         return f"{case.name}: it does not end within {SECONDS_OF_A_CASE} seconds"
     if (ran.stdout, ran.returncode) == (wanted, status):
         return ""
-    told = first_difference(wanted, ran.stdout) if ran.stdout != wanted else "it writes what it should"
-    return f"{case.name}: {told}; the status should be {status} and is {ran.returncode}, and its standard error is {ran.stderr!r}"
+    difference = first_difference(wanted, ran.stdout) if ran.stdout != wanted else "it writes what it should"
+    return f"{case.name}: {difference}; the status should be {status} and is {ran.returncode}, and its standard error is {ran.stderr!r}"
 
 
 def built(kind):

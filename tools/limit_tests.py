@@ -42,9 +42,9 @@ def report(interfaces):
     )
 
 
-def check_script(what, sites, told, queues=("sales",)):
+def check_script(what, sites, exchanges, queues=("sales",)):
     """Runs a script of `sites` sites with these queues: pairs of a line, and what the line must write."""
-    script, wanted = ("".join(it).encode() for it in zip(*((f"{line}\n", printed) for line, printed in told)))
+    script, wanted = ("".join(it).encode() for it in zip(*((f"{line}\n", printed) for line, printed in exchanges)))
     ran = run(BUILT, ["script", str(sites), *queues], script)
     if ran.stdout != wanted or ran.returncode:
         why = first_difference(wanted, ran.stdout) if ran.stdout != wanted else f"the status is {ran.returncode}"
@@ -65,8 +65,8 @@ def members_past_the_limit():
     as full. A site with one of its own refuses that frame, and takes it once that one is removed."""
     interfaces = [f"SIP/{it}" for it in range(MOST_MEMBERS)]
     one_more = f"SIP/{MOST_MEMBERS}"
-    told = [(add(0, it), ADDED) for it in interfaces]
-    told += [
+    exchanges = [(add(0, it), ADDED) for it in interfaces]
+    exchanges += [
         (add(0, one_more), FULL),
         (remove(0, "SIP/0"), REMOVED),
         (add(0, one_more), ADDED),
@@ -86,7 +86,7 @@ def members_past_the_limit():
         ("1 offer sales", "offer 0 SIP/0\n"),
         ("1 ami Action: QueueStatus", report(interfaces)),
     ]
-    check_script("a member past the limit", 2, told)
+    check_script("a member past the limit", 2, exchanges)
     return f"a script of {MOST_MEMBERS:,} members and one more"
 
 
@@ -94,30 +94,30 @@ def halves_of_all_members():
     """Two sites take every second add of a third, which adds as many members as there may be; then each takes what the other knows, and
     all three show them all."""
     interfaces = [f"SIP/{it}" for it in range(MOST_MEMBERS)]
-    told = []
+    exchanges = []
     for number, interface in enumerate(interfaces):
-        told += [(add(0, interface), ADDED), ("0 cut", f"entry {number}\n"), (f"{1 + number % 2} take {number}", "taken\n")]
-    told += [(f"{site} whole", f"entry {MOST_MEMBERS + site}\n") for site in range(3)]
-    told += [(f"{taker} take {MOST_MEMBERS + maker}", "taken\n") for taker, maker in [(1, 2), (2, 1), (1, 0), (2, 0)]]
-    told += [(f"{site} ami Action: QueueStatus", report(interfaces)) for site in range(3)]
-    check_script("two halves of all members", 3, told)
+        exchanges += [(add(0, interface), ADDED), ("0 cut", f"entry {number}\n"), (f"{1 + number % 2} take {number}", "taken\n")]
+    exchanges += [(f"{site} whole", f"entry {MOST_MEMBERS + site}\n") for site in range(3)]
+    exchanges += [(f"{taker} take {MOST_MEMBERS + maker}", "taken\n") for taker, maker in [(1, 2), (2, 1), (1, 0), (2, 0)]]
+    exchanges += [(f"{site} ami Action: QueueStatus", report(interfaces)) for site in range(3)]
+    check_script("two halves of all members", 3, exchanges)
     return f"a script of two halves of {MOST_MEMBERS:,} members"
 
 
 def runs_past_the_limit():
     """A site takes every second of another's removes, until it has as many runs of dots as it may have. It then refuses one more, of
     another or of its own, and still counts calls; and what takes all that it knows has as many. Another that has one run fewer adds."""
-    told = []
+    exchanges = []
     for taken in range(MOST_RUNS + 1):
-        told += [(add(0, "a"), ADDED), ("0 cut", f"entry {2 * taken}\n"), (remove(0, "a"), REMOVED), ("0 cut", f"entry {2 * taken + 1}\n")]
-        told.append((f"1 take {2 * taken + 1}", "taken\n" if taken < MOST_RUNS else "refused RunsFull\n"))
-        told += [(add(0, "a"), ADDED), (remove(0, "a"), REMOVED)]
+        exchanges += [(add(0, "a"), ADDED), ("0 cut", f"entry {2 * taken}\n"), (remove(0, "a"), REMOVED), ("0 cut", f"entry {2 * taken + 1}\n")]
+        exchanges.append((f"1 take {2 * taken + 1}", "taken\n" if taken < MOST_RUNS else "refused RunsFull\n"))
+        exchanges += [(add(0, "a"), ADDED), (remove(0, "a"), REMOVED)]
     whole, last = 2 * MOST_RUNS + 2, 2 * MOST_RUNS + 3
-    told += [(add(1, "b"), FULL), ("1 completed sales", "done\n"), ("1 ami Action: QueueStatus|Member: b", report([]).replace("Completed: 0", "Completed: 1"))]
-    told += [("1 whole", f"entry {whole}\n"), (f"3 take {whole}", "taken\n"), (add(3, "b"), FULL)]
-    told += [(f"2 take {2 * taken + 1}", "taken\n") for taken in range(MOST_RUNS - 1)]
-    told += [(add(2, "b"), ADDED), ("2 cut", f"entry {last}\n"), (f"1 take {last}", "refused RunsFull\n")]
-    check_script("a run past the limit", 4, told)
+    exchanges += [(add(1, "b"), FULL), ("1 completed sales", "done\n"), ("1 ami Action: QueueStatus|Member: b", report([]).replace("Completed: 0", "Completed: 1"))]
+    exchanges += [("1 whole", f"entry {whole}\n"), (f"3 take {whole}", "taken\n"), (add(3, "b"), FULL)]
+    exchanges += [(f"2 take {2 * taken + 1}", "taken\n") for taken in range(MOST_RUNS - 1)]
+    exchanges += [(add(2, "b"), ADDED), ("2 cut", f"entry {last}\n"), (f"1 take {last}", "refused RunsFull\n")]
+    check_script("a run past the limit", 4, exchanges)
     return f"a script of {MOST_RUNS:,} runs and one more"
 
 
@@ -125,27 +125,27 @@ def totals_of_all_sites():
     """Each of 64 sites counts a call in each of 256 queues. One takes what all others know and then knows as many totals as there may
     be, and one takes all of these at once; both show the sums."""
     queues = [f"q{it}" for it in range(256)]
-    told = [(f"{site} completed {queue}", "done\n") for site in range(64) for queue in queues]
-    told += [(f"{site} whole", f"entry {site}\n") for site in range(63)]
-    told += [(f"63 take {site}", "taken\n") for site in range(63)]
-    told += [("63 whole", "entry 63\n"), ("0 take 63", "taken\n")]
+    exchanges = [(f"{site} completed {queue}", "done\n") for site in range(64) for queue in queues]
+    exchanges += [(f"{site} whole", f"entry {site}\n") for site in range(63)]
+    exchanges += [(f"63 take {site}", "taken\n") for site in range(63)]
+    exchanges += [("63 whole", "entry 63\n"), ("0 take 63", "taken\n")]
     sums = "".join(f"Event: QueueParams\r\nQueue: {it}\r\nCompleted: 64\r\nAbandoned: 0\r\n\r\n" for it in queues)
     shown = (
         "Response: Success\r\nEventList: start\r\nMessage: Queue status will follow\r\n\r\n"
         f"{sums}Event: QueueStatusComplete\r\nEventList: Complete\r\nListItems: {len(queues)}\r\n\r\n"
     )
-    told += [(f"{site} ami Action: QueueStatus", shown) for site in (63, 0)]
-    check_script("the totals of all sites", 64, told, queues)
+    exchanges += [(f"{site} ami Action: QueueStatus", shown) for site in (63, 0)]
+    check_script("the totals of all sites", 64, exchanges, queues)
     return f"a script of {MOST_TOTALS:,} totals"
 
 
 def check_frame(what, given, lines):
     """Reads a frame: it must give `lines` lines, of which the last spells it again; or have a fault, if `lines` is one."""
     ran = run(TEST_PROGRAM, ["frames"], given.hex().encode() + b"\n")
-    told = ran.stdout.decode().split("\n")[:-1]
+    written = ran.stdout.decode().split("\n")[:-1]
     wanted = [given.hex()] if isinstance(lines, int) else [lines]
-    if told[-1:] != wanted or len(told) != (lines if isinstance(lines, int) else 1) or ran.returncode:
-        raise Failed(f"a frame of {what} is written as {len(told)} lines, of which the last is {''.join(told[-1:])[:80]!r}; status {ran.returncode}")
+    if written[-1:] != wanted or len(written) != (lines if isinstance(lines, int) else 1) or ran.returncode:
+        raise Failed(f"a frame of {what} is written as {len(written)} lines, of which the last is {''.join(written[-1:])[:80]!r}; status {ran.returncode}")
 
 
 def full_cell(count):
@@ -191,14 +191,14 @@ def frames_that_a_site_has_no_room_for():
     """A site that has taken as many members, or as many runs, as it may have refuses a frame with one more, at its journal and at a
     desk over it. With as many runs it refuses an add too."""
     full = frame(1, [run_of(1, it, it) for it in range(1, 2 * MOST_RUNS, 2)])
-    told = [
+    cells_alone = [
         (cells(1, MOST_MEMBERS), "taken"),
         (live(2, [(1, MOST_MEMBERS + 1)]), "Take(CellsFull)"),
         (cells(1, 1), "taken"),
     ]
     runs = [(full, "taken"), (frame(2, [run_of(2, 1, 1)]), "Take(RunsFull)")]
     for where in ("journal", "desk"):
-        for pairs, more, answers in ((told, "cut", "nothing"), (runs, "add sales SIP/1 0", "refused MembersFull")):
+        for pairs, more, answers in ((cells_alone, "cut", "nothing"), (runs, "add sales SIP/1 0", "refused MembersFull")):
             script = [*(f"take {given.hex()}" for given, _ in pairs), more]
             lines, steps = [], 0
             for word in (*(answer for _, answer in pairs), answers):

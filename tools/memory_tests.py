@@ -64,7 +64,7 @@ TESTS = [
     ),
     MemoryTest(
         crate="tests_of_servers",
-        name="served::a_session_that_lacks_memory_ends_or_tells_so",
+        name="served::a_session_that_lacks_memory_ends_or_replies_so",
         what="a served session",
         whole="whole",
         refused={"fault": "ended it with Memory", "reply": "were replied to as Out of memory"},
@@ -78,7 +78,7 @@ TESTS = [
             "no thread": "kept a thread from being started",
             "no run": "ended the run with Memory",
             "stopped": "stopped a site's thread with Memory",
-            "unread": "left an audit or a report untold",
+            "unread": "kept an audit or a report from being made",
         },
     ),
 ]
@@ -136,8 +136,8 @@ def run_one(test, run_refusing):
     ends = ends_of(test, run_refusing, tests)
     for end, led_to in test.refused.items():
         expect(end in ends, f"no refused allocation of {test.what} {led_to}", whole)
-    told = ", ".join(f"{ends.count(end)} {led_to}" for end, led_to in test.refused.items())
-    return f"each of the {len(ends)} allocations of {test.what} refused in turn: {told}"
+    led = ", ".join(f"{ends.count(end)} {led_to}" for end, led_to in test.refused.items())
+    return f"each of the {len(ends)} allocations of {test.what} refused in turn: {led}"
 
 
 def has_refusal(ran, wanted):
@@ -176,6 +176,9 @@ def crates_of_cases():
 def run_cases(kind, run_refusing):
     """Runs the cases of a kind. Returns a line that reports what was run."""
     found = [it for it in cases.all_cases() if it.kind == kind and cases.is_named(it, CASES[kind])]
+    for name in CASES[kind]:
+        if not any(cases.is_named(it, [name]) for it in found):
+            raise Failed(f"there is no case {name}")
     path = cases.built(kind)
     again, ended = (sum(it) for it in zip(*(run_case(it, path, run_refusing) for it in found)))
     if not again:
@@ -192,8 +195,8 @@ def run_all(crates):
         run_refusing = refusing(room)
         if not run_refusing:
             return [NO_COMPILER]
-        told = [run_one(test, run_refusing) for test in TESTS if test.crate in crates]
-        return told + [run_cases(kind, run_refusing) for kind in CASES if cases.KINDS[kind].program in crates]
+        report = [run_one(test, run_refusing) for test in TESTS if test.crate in crates]
+        return report + [run_cases(kind, run_refusing) for kind in CASES if cases.KINDS[kind].program in crates]
 
 
 if __name__ == "__main__":

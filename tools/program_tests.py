@@ -1,5 +1,7 @@
 """Runs the program from the command line: its words, its texts and its statuses, and each of its allocations refused."""
+import contextlib
 import os
+import random
 import shutil
 import signal
 import socket
@@ -48,12 +50,14 @@ def first_difference(wanted, given):
     return f"line {number} should be {pair[0]!r} and is {pair[1]!r}"
 
 
-def check(program, words, status, printed=b"", told=b"", **how):
-    """Runs a program: it must end with this status, with these bytes in its output and in its standard error."""
-    ran = run(program, words, **how)
+def check(program, words, status, printed=b"", errors=b"", **how):
+    """Runs a program: it must end with this status, with these bytes in its output and in its standard error. Where there are to be none, it
+    must write none."""
+    ran = run(program, words, **{"limit": 60, **how})
+    written = ran.stdout or b""
     expect(ran.returncode == status, f"the status is not {status}", ran)
-    expect(printed in (ran.stdout or b""), f"{printed!r} is not in what it wrote", ran)
-    expect(told in ran.stderr and bool(told) == bool(ran.stderr), f"{told!r} is not in its standard error", ran)
+    expect(printed in written and bool(printed) == bool(written), f"{printed!r} is not what it wrote", ran)
+    expect(errors in ran.stderr and bool(errors) == bool(ran.stderr), f"{errors!r} is not in its standard error", ran)
 
 
 def statuses(program):
@@ -68,21 +72,21 @@ def statuses(program):
 def wrong_words(program):
     """Errors for wrong command lines."""
     bad_list = b"queue_sites: bad queue list\n"
-    check(program, [], 2, told=b"Usage: queue_sites")
-    check(program, ["dance"], 2, told=b"unrecognized subcommand 'dance'")
+    check(program, [], 2, errors=b"Usage: queue_sites")
+    check(program, ["dance"], 2, errors=b"unrecognized subcommand 'dance'")
     for sites in (b"0", b"65", b"two"):
-        check(program, ["script", sites, "sales"], 2, told=b"invalid value '%b' for '<SITES>'" % sites)
-    check(program, ["script", "1"], 2, told=b"required arguments were not provided")
+        check(program, ["script", sites, "sales"], 2, errors=b"invalid value '%b' for '<SITES>'" % sites)
+    check(program, ["script", "1"], 2, errors=b"required arguments were not provided")
     for queues in (["sales", "sales"], [""], ["a\nb"], ["a" * 81], [*map(str, range(257))]):
-        check(program, ["script", "1", *queues], 2, told=bad_list)
-    check(program, ["script", "1", b"\xff"], 2, told=b"queue_sites: the arguments are no text\n")
+        check(program, ["script", "1", *queues], 2, errors=bad_list)
+    check(program, ["script", "1", b"\xff"], 2, errors=b"queue_sites: the arguments are no text\n")
 
 
 def check_order(program, words, wrong, rows):
     """Needs the errors of a command line in their order, where all is wrong at first. A row has the status and the text of an
     error, and what puts it right."""
-    for status, told, right in rows:
-        check(program, words(**wrong), status, told=told, limit=60)
+    for status, text, right in rows:
+        check(program, words(**wrong), status, errors=text, limit=60)
         wrong |= right
 
 
@@ -114,7 +118,7 @@ def errors_of_serve(program, room):
             (2, b"queue_sites: bad address\n", {"bind": "127.0.0.1"}),
             (2, b"queue_sites: bad queue list\n", {"queues": ["a"]}),
             (1, b"queue_sites: cannot read the secret's file: " + NO_FILE, {"file": secret}),
-            (2, b"queue_sites: bad text\n", {"user": "admin"}),
+            (2, b"queue_sites: bad user\n", {"user": "admin"}),
             (1, f"queue_sites: store {missing}/site-0.db: cannot open\n".encode(), {"store": ["--keep", "--store", room]}),
             (1, f"queue_sites: cannot listen on {port}: {TAKEN}".encode(), {}),
         ])
@@ -143,7 +147,7 @@ def errors_of_site(program, room):
             (2, b"queue_sites: more than 64 peers\n", {"peers": ["127.0.0.1:9"] * 64}),
             (2, b"queue_sites: bad queue list\n", {"queues": ["a"]}),
             (1, b"queue_sites: cannot read the secret's file: " + NO_FILE, {"file": secret}),
-            (2, b"queue_sites: bad text\n", {"user": "admin"}),
+            (2, b"queue_sites: bad user\n", {"user": "admin"}),
             (1, b"queue_sites: cannot read the link secret's file: " + NO_FILE, {"shared": f"{room}/short"}),
             (2, b"queue_sites: bad link secret\n", {"shared": f"{room}/shared"}),
             (1, f"queue_sites: cannot listen on {port}: {TAKEN}".encode(), {"clients": "127.0.0.1:0"}),
@@ -151,7 +155,7 @@ def errors_of_site(program, room):
             (1, f"queue_sites: store {store}: cannot open\n".encode(), {"store": ["--keep", "--store", f"{room}/store"]}),
         ])
         with open("/dev/full", "wb") as full:
-            check(program, words(**wrong), 1, told=b"queue_sites: write failed\n", out=full, limit=60)
+            check(program, words(**wrong), 1, errors=b"queue_sites: write failed\n", out=full, limit=60)
 
 
 def wrong_words_of_site(program):
@@ -159,32 +163,32 @@ def wrong_words_of_site(program):
     right = ["site", "3", "admin", "a", "--secret-file", "none", "--link-secret-file", "none", "--volatile"]
     missing, no_secret = b"required arguments were not provided", b"queue_sites: cannot read the secret's file: " + NO_FILE
     for at in (3, 4, 6, 8):
-        check(program, right[:at] + right[at + (2 if at in (4, 6) else 1):], 2, told=missing)
-    check(program, [*right, "--store", "none"], 2, told=b"cannot be used with")
+        check(program, right[:at] + right[at + (2 if at in (4, 6) else 1):], 2, errors=missing)
+    check(program, [*right, "--store", "none"], 2, errors=b"cannot be used with")
     for option, value, name in (("sessions", "0", "N"), ("sessions", "65", "N"), ("idle", "-1", "SECONDS"), ("idle", "soon", "SECONDS")):
-        check(program, [*right, f"--{option}={value}"], 2, told=f"invalid value '{value}' for '--{option} <{name}>'".encode())
+        check(program, [*right, f"--{option}={value}"], 2, errors=f"invalid value '{value}' for '--{option} <{name}>'".encode())
     for word in ("", "127.0.0.1", ":5038", "127.0.0.1:", "127.0.0.1:65536", "::1:5038", "[::1]", "host:http"):
         for option, what in (("clients", "clients"), ("links", "links"), ("peer", "a peer")):
-            check(program, [*right, f"--{option}={word}"], 2, told=f"queue_sites: bad address of {what}\n".encode())
+            check(program, [*right, f"--{option}={word}"], 2, errors=f"queue_sites: bad address of {what}\n".encode())
     for word in ("127.0.0.1:65535", "[::1]:5038", "host.example:5038"):
         for option in ("clients", "links", "peer"):
-            check(program, [*right, f"--{option}={word}"], 1, told=no_secret)
+            check(program, [*right, f"--{option}={word}"], 1, errors=no_secret)
     for option in ("--sessions=1", "--sessions=64", "--idle=0"):
-        check(program, [*right, option], 1, told=no_secret)
+        check(program, [*right, option], 1, errors=no_secret)
 
 
 def wrong_words_of_reports(program):
     """Errors for words of `audit` and `steps` that are missing, or too many."""
     missing = b"required arguments were not provided"
-    check(program, ["audit"], 2, told=missing)
-    check(program, ["audit", "--frames", "none"], 2, told=b"unexpected argument '--frames'")
-    check(program, ["audit", *["none"] * 65], 2, told=b"queue_sites: more than 64 files\n")
-    check(program, ["audit", *["none"] * 64], 1, told=b"queue_sites: store none: cannot read: " + NO_FILE)
-    check(program, ["steps"], 2, told=missing)
-    check(program, ["steps", "--frames"], 2, told=missing)
-    check(program, ["steps", "none", "more"], 2, told=b"unexpected argument 'more'")
+    check(program, ["audit"], 2, errors=missing)
+    check(program, ["audit", "--frames", "none"], 2, errors=b"unexpected argument '--frames'")
+    check(program, ["audit", *["none"] * 65], 2, errors=b"queue_sites: more than 64 files\n")
+    check(program, ["audit", *["none"] * 64], 1, errors=b"queue_sites: store none: cannot read: " + NO_FILE)
+    check(program, ["steps"], 2, errors=missing)
+    check(program, ["steps", "--frames"], 2, errors=missing)
+    check(program, ["steps", "none", "more"], 2, errors=b"unexpected argument 'more'")
     for words in (["steps", "none"], ["steps", "none", "--frames"], ["steps", "--frames", "none"], ["audit", "none", "more"]):
-        check(program, words, 1, told=b"queue_sites: store none: cannot read: " + NO_FILE)
+        check(program, words, 1, errors=b"queue_sites: store none: cannot read: " + NO_FILE)
     check(program, ["audit", "--help"], 0, printed=b"Usage: queue_sites audit <FILE>...")
     check(program, ["steps", "--help"], 0, printed=b"--frames")
 
@@ -193,14 +197,14 @@ def failures(program, room):
     """Errors for a script that can't be read, is too long, or whose output can't be written."""
     directory = os.open(room, os.O_RDONLY)
     try:
-        check(program, SCRIPT, 1, told=b"queue_sites: read failed\n", given=directory)
+        check(program, SCRIPT, 1, errors=b"queue_sites: read failed\n", given=directory)
     finally:
         os.close(directory)
     comment = b"#" * LONGEST_SCRIPT
     check(program, SCRIPT, 0, given=comment)
-    check(program, SCRIPT, 1, told=b"queue_sites: script too long\n", given=comment + b"#")
+    check(program, SCRIPT, 1, errors=b"queue_sites: script too long\n", given=comment + b"#")
     with open("/dev/full", "wb") as full:
-        check(program, SCRIPT, 1, told=b"queue_sites: write failed\n", given=b"0 dance", out=full)
+        check(program, SCRIPT, 1, errors=b"queue_sites: write failed\n", given=b"0 dance", out=full)
 
 
 def from_another_folder(room):
@@ -216,7 +220,7 @@ def scripts_alone():
     program, words = f"{folder('queue_script')}/out/queue_script", ["script", "--help"]
     ran = run(program, words)
     expect(ran.stdout == run(BUILT, words).stdout != b"", "its help is not that of queue_sites", ran)
-    check(program, ["audit", "none"], 2, told=b"queue_sites: this program runs scripts alone\n")
+    check(program, ["audit", "none"], 2, errors=b"queue_sites: this program runs scripts alone\n")
 
 
 def built_files():
@@ -248,22 +252,30 @@ def first_example():
 def wrong_words_of_preview():
     """The texts and statuses of wrong words of a preview, and of input that can't be read. Nothing
     is compiled for them."""
-    check("./queue_sites", ["preview"], 2, told=b"Usage: queue_sites preview")
+    check("./queue_sites", ["preview"], 2, errors=b"Usage: queue_sites preview")
     check("./queue_sites", ["preview", "--help"], 0, printed=b"Usage: queue_sites preview")
     for seconds in ([], ["0"], ["86401"], ["two"], ["-1"], [""]):
         words = ["preview", "--seconds", *seconds, *(SCRIPT if seconds else [])]
-        check("./queue_sites", words, 2, told=b"for '--seconds N': N is 1 to 86400\n")
+        check("./queue_sites", words, 2, errors=b"for '--seconds N': N is 1 to 86400\n")
     missing = b"preview: the words of the program are missing\n"
-    check("./queue_sites", ["preview", "--seconds=5"], 2, told=missing)
+    check("./queue_sites", ["preview", "--seconds=5"], 2, errors=missing)
     closed = {"before": lambda: os.close(0)}
-    check("./queue_sites", ["preview", *SCRIPT], 1, told=b"preview: read failed: ", **closed)
+    check("./queue_sites", ["preview", *SCRIPT], 1, errors=b"preview: read failed: ", **closed)
+
+
+def free_port():
+    """A port below those that the system gives to clients, which stays free while a preview is compiled."""
+    while True:
+        port = random.randrange(20_000, 32_000)
+        with socket.socket() as it, contextlib.suppress(OSError):
+            it.bind(("127.0.0.1", port))
+            return port
 
 
 def preview_of_a_server():
     """A preview of `serve` says where it listens as soon as it does, greets a client, and ends at
     Ctrl-C, with all that it has started."""
-    with socket.create_server(("127.0.0.1", 0)) as it:
-        port = it.getsockname()[1]
+    port = free_port()
     words = ["preview", "--seconds", "120", "serve", "1", str(port), "admin", "s3", "sales"]
     pipes = {"stdin": subprocess.DEVNULL, "stdout": subprocess.PIPE, "stderr": subprocess.PIPE}
     with subprocess.Popen(["./queue_sites", *words], cwd=TOP, **pipes) as server:
@@ -332,7 +344,8 @@ def refused_allocations(room):
 def run_all(is_gate_passed=False):
     """Runs all tests. Returns lines that report what was run. Once the gate has passed, they include the program as Rattle's own
     compiler builds it."""
-    run("./queue_sites", ["--version"])
+    for words in (["--version"], SCRIPT):  # standard error reports what they build
+        run("./queue_sites", words)
     programs = [BUILT, f"{BUILT}.by-rattle"] if is_gate_passed else [BUILT]
     with tempfile.TemporaryDirectory() as room:
         for program in ("./queue_sites", *programs):

@@ -1,5 +1,5 @@
-/* Lets one system call of a program that it is loaded before (LD_PRELOAD) fail, by ENOBUFS: the first that sets the option of a socket that
-   REFUSED_OPTION names, `nodelay` or `write_timeout`. */
+/* Lets system calls of a program that it is loaded before (LD_PRELOAD) fail: by ENOBUFS the first that sets the option of a socket that
+   REFUSED_OPTION names, `nodelay` or `write_timeout`; or, where that is `connect`, by EMFILE the first two that connect. */
 #define _GNU_SOURCE
 #include <dlfcn.h>
 #include <errno.h>
@@ -17,6 +17,17 @@ static int is_named(int level, int option) {
     if (!name) return 0;
     if (!strcmp(name, "nodelay")) return level == IPPROTO_TCP && option == TCP_NODELAY;
     return !strcmp(name, "write_timeout") && level == SOL_SOCKET && option == SO_SNDTIMEO;
+}
+
+int connect(int file, const struct sockaddr *address, socklen_t length) {
+    static int (*next)(int, const struct sockaddr *, socklen_t);
+    const char *name = getenv("REFUSED_OPTION");
+    if (!next) next = (int (*)(int, const struct sockaddr *, socklen_t))dlsym(RTLD_NEXT, "connect");
+    if (name && !strcmp(name, "connect") && atomic_fetch_add(&refused, 1) < 2) {
+        errno = EMFILE;
+        return -1;
+    }
+    return next(file, address, length);
 }
 
 int setsockopt(int file, int level, int option, const void *value, socklen_t length) {

@@ -1,8 +1,8 @@
 """Runs the tests, and reports at the end what was run and how long each part took.
 
-    ./test                     the whole gate, the wrong bodies, the program from the command line, the cases, sites under
-                               random workloads, the server, with stores too, linked sites, audits, and tests with
-                               each allocation refused
+    ./test                     the whole gate, a self-test of the wrong bodies and these, the program from the command
+                               line, the cases, the programs at their limits, sites under random workloads, the server,
+                               with stores too, linked sites, audits, and tests with each allocation refused
     ./test CRATE..             what a change of these crates can break: layout, proofs, tests and stored runs of these and
                                of the crates that stand on them, over the work that earlier checks kept, and the
                                wrong bodies of these
@@ -49,13 +49,13 @@ class Parts:
         print(f"test: {name}", flush=True)
         started = time.monotonic()
         try:
-            passed, told = part()
+            passed, report = part()
         except Exception:  # of the part alone: the others run, and all is reported
-            passed, told = False, [f"    {it}" for it in traceback.format_exc().splitlines()]
+            passed, report = False, [f"    {it}" for it in traceback.format_exc().splitlines()]
         seconds = time.monotonic() - started
         self.has_failed = self.has_failed or not passed
         said = "passed" if passed else "FAILED"
-        self.lines += [f"test: {said} after {seconds // 60:.0f}:{seconds % 60:02.0f}: {name}", *told]
+        self.lines += [f"test: {said} after {seconds // 60:.0f}:{seconds % 60:02.0f}: {name}", *report]
 
 
 def passes(words, place=TOP, **how):
@@ -114,9 +114,9 @@ def run_wrong_bodies(parts, names, is_gate_passed=False):
     spent = {}
 
     def part():
-        passed, told, seconds = wrong_bodies.run(names, is_gate_passed)
+        passed, report, seconds = wrong_bodies.run(names, is_gate_passed)
         spent.update(seconds)
-        return passed, told
+        return passed, report
 
     parts.run(f"wrong bodies of {'all crates' if is_gate_passed else ' '.join(names)}", part)
     return spent
@@ -128,10 +128,10 @@ def whole():
     parts, last, times = Parts(), [], []
 
     def gate_part():
-        status, line, told, *spent = gate.run()
+        status, line, line_of_times, *spent = gate.run()
         last.append(line)
         times.extend(spent)
-        return status == 0, [told]
+        return status == 0, [line_of_times]
 
     parts.run("the gate", gate_part)
     table, seconds = times or ({}, 0)
@@ -200,7 +200,7 @@ def of_crates(names, is_program_changed=False, are_cases_changed=False):
         parts.run(f"tests of {name}", lambda it=name: (tested(it), []))
     if names and not parts.has_failed:
         run_wrong_bodies(parts, names)
-    if not parts.has_failed and (is_program_changed or PROGRAM in changed):
+    if not parts.has_failed and (is_program_changed or {PROGRAM, "queue_script"} & {*changed}):
         run_program(parts)
     kinds = [it for it, kind in cases.KINDS.items() if are_cases_changed or kind.program in changed]
     if not parts.has_failed and kinds:

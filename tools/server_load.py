@@ -96,9 +96,13 @@ def watched(load):
     return (stolen_now - stolen) / max(ticks_now - ticks, 1), figures
 
 
+def least_stolen(load):
+    """What `watched` returns of the run of several from which the host took the least."""
+    return min((watched(load) for _ in range(RUNS)), key=lambda it: (it[0], -it[1][0]))
+
+
 def show(what, clients, sites, members, load):
-    """Runs a load several times, and prints the row of the run from which the host took the least."""
-    share, (count, bytes_read, half, most, _) = min(watched(load) for _ in range(RUNS))
+    share, (count, bytes_read, half, most, _) = least_stolen(load)
     members = f"{members:,}" if members else "-"
     print(f"{what:<10} {clients:>8} {sites:>6} {members:>8} {count / SECONDS:>11,.0f} {bytes_read / SECONDS / 1e6:>7,.0f} "
           f"{half / 1e3:>8,.0f} us {most / 1e3:>8,.0f} us {share:>7.1%}", flush=True)

@@ -37,7 +37,7 @@ SETTLED, CAUGHT_UP = 5, 10
 # How much processor time a server may take while nobody asks, in seconds.
 LITTLE = 0.2
 # What is logged where memory runs out.
-TOLD = re.compile(rb"queue_sites: (\d+ log lines dropped|site \d+: (no connection: .+|client \S+: (connection not prepared: .+|"
+LOGGED_OUT_OF_MEMORY = re.compile(rb"queue_sites: (\d+ log lines dropped|site \d+: (no connection: .+|client \S+: (connection not prepared: .+|"
                   rb"waits for a place|session ended: (out of memory; its last command may have been done|"
                   rb"desk down; its last command may have been done))|behind site \d+: .+|caught up with site \d+))")
 # A line of the log by which a site falls behind a peer, or catches up with it.
@@ -137,19 +137,30 @@ class Server:
                 self.logged += os.read(self.process.stderr.fileno(), 65_536)
         return self.logged
 
+    def waits(self, client, site=0):
+        """Waits until it has logged that a client waits for a place."""
+        line = f"queue_sites: site {site}: client {client.name}: waits for a place\n".encode()
+        need(line in self.read_log(lambda logged: line in logged), "a client isn't logged as waiting")
+
+    def stop_caught_up(self):
+        """Ends it where it has logged only that sites fell behind and have caught up. Returns how often one fell behind."""
+        # The line of the last site that has caught up may come late.
+        self.read_log(lambda logged: logged.count(b": behind ") == logged.count(b": caught up "))
+        return catches_up(self.stop())
+
     def stop_silent(self):
         """Ends it where it has logged nothing."""
-        told = self.stop()
-        need(told == b"", f"the server logged {told!r}")
+        log = self.stop()
+        need(log == b"", f"the server logged {log!r}")
 
     def stop_logged(self, *events):
         """Ends it. Its log must have exactly these events of clients, in any order: the site, the client, and the text."""
         self.read_log(lambda logged: logged.count(b"\n") >= len(events))
-        told = self.stop()
-        found = [OF_CLIENT.fullmatch(line) for line in told.splitlines()]
-        need(all(found), f"the server logged {told!r}")
+        log = self.stop()
+        found = [OF_CLIENT.fullmatch(line) for line in log.splitlines()]
+        need(all(found), f"the server logged {log!r}")
         found = collections.Counter((int(it[1]), it[2].decode(), it[3].decode()) for it in found)
-        need(found == collections.Counter(events), f"the server logged {told!r}, and not {events!r}")
+        need(found == collections.Counter(events), f"the server logged {log!r}, and not {events!r}")
 
     def memory(self):
         """How many bytes of memory it has."""
@@ -267,30 +278,30 @@ def wrong_words():
     for text in (b"queue_sites serve", b"[default: 3600]", b"[default: 127.0.0.1]"):
         check(BUILT, ["serve", "--help"], 0, printed=text)
     for sites in ("0", "9", "two"):
-        check(BUILT, changed(0, sites), 2, told=b"invalid value '%b' for '<SITES>'" % sites.encode())
+        check(BUILT, changed(0, sites), 2, errors=b"invalid value '%b' for '<SITES>'" % sites.encode())
     for port in ("0", "65529", "http"):
-        check(BUILT, changed(1, port), 2, told=b"invalid value '%b' for '<PORT>'" % port.encode())
-    check(BUILT, ["serve", *right[:-1]], 2, told=b"required arguments were not provided")
-    check(BUILT, ["serve", "--idle", "soon", *right], 2, told=b"invalid value 'soon'")
-    check(BUILT, ["serve", "--bind", "nowhere", *right], 2, told=b"queue_sites: bad address\n")
+        check(BUILT, changed(1, port), 2, errors=b"invalid value '%b' for '<PORT>'" % port.encode())
+    check(BUILT, ["serve", *right[:-1]], 2, errors=b"required arguments were not provided")
+    check(BUILT, ["serve", "--idle", "soon", *right], 2, errors=b"invalid value 'soon'")
+    check(BUILT, ["serve", "--bind", "nowhere", *right], 2, errors=b"queue_sites: bad address\n")
     for places in ("0", "65", "few"):
-        check(BUILT, ["serve", "--sessions", places, *right], 2, told=b"invalid value '%b' for '--sessions <N>'" % places.encode())
-    check(BUILT, ["serve", *right, "sales"], 2, told=b"queue_sites: bad queue list\n")
-    check(BUILT, ["serve", "1", "24000", "", "", "a", "a"], 2, told=b"queue_sites: bad queue list\n")
+        check(BUILT, ["serve", "--sessions", places, *right], 2, errors=b"invalid value '%b' for '--sessions <N>'" % places.encode())
+    check(BUILT, ["serve", *right, "sales"], 2, errors=b"queue_sites: bad queue list\n")
+    check(BUILT, ["serve", "1", "24000", "", "", "a", "a"], 2, errors=b"queue_sites: bad queue list\n")
     for word in ("", "a" * 81, "a\nb", " a", "a\t"):
-        for at in (2, 3):
-            check(BUILT, changed(at, word), 2, told=b"queue_sites: bad text\n")
+        for at, what in ((2, b"user"), (3, b"secret")):
+            check(BUILT, changed(at, word), 2, errors=b"queue_sites: bad %b\n" % what)
     with socket.socket() as taken:
         taken.bind(("127.0.0.1", 0))
         taken.listen()
         port = taken.getsockname()[1]
         if port <= 65_528:
-            taken_told = b"queue_sites: cannot listen on %d: Address already in use (os error 98)\n" % port
-            check(BUILT, changed(1, str(port)), 1, told=taken_told)
+            taken_error = b"queue_sites: cannot listen on %d: Address already in use (os error 98)\n" % port
+            check(BUILT, changed(1, str(port)), 1, errors=taken_error)
             elsewhere = b"queue_sites: cannot listen on %d: Cannot assign requested address (os error 99)\n" % port
-            check(BUILT, ["serve", "--bind", "192.0.2.1", *changed(1, str(port))[1:]], 1, told=elsewhere)
+            check(BUILT, ["serve", "--bind", "192.0.2.1", *changed(1, str(port))[1:]], 1, errors=elsewhere)
     with open("/dev/full", "wb") as full:
-        check(BUILT, changed(1, str(free_ports(1))), 1, told=b"queue_sites: write failed\n", out=full)
+        check(BUILT, changed(1, str(free_ports(1))), 1, errors=b"queue_sites: write failed\n", out=full)
     return "its words and texts"
 
 
@@ -298,15 +309,15 @@ def ports_that_are_taken():
     """Where two of three ports are taken, the server names the first of them, also if its standard output fails. It prints nothing, and no longer
     listens at the port before."""
     port = free_ports(3)
-    words, told = ["serve", "3", str(port), USER, SECRET, "sales"], b"queue_sites: cannot listen on %d: Address already in use (os error 98)\n" % (port + 1)
+    words, errors = ["serve", "3", str(port), USER, SECRET, "sales"], b"queue_sites: cannot listen on %d: Address already in use (os error 98)\n" % (port + 1)
     with socket.socket() as one, socket.socket() as other:
         for place, taken in enumerate((one, other), 1):
             taken.bind(("127.0.0.1", port + place))
             taken.listen()
-        ran = run(BUILT, words)
-        expect((ran.returncode, ran.stdout, ran.stderr) == (1, b"", told), f"the status is not 1, or something else is written than {told!r}", ran)
+        ran = run(BUILT, words, limit=60)
+        expect((ran.returncode, ran.stdout, ran.stderr) == (1, b"", errors), f"the status is not 1, or something else is written than {errors!r}", ran)
         with open("/dev/full", "wb") as full:
-            check(BUILT, words, 1, told=told, out=full)
+            check(BUILT, words, 1, errors=errors, out=full)
     need(is_free(port), "the port before one that is taken isn't free")
     return "two ports of three that are taken"
 
@@ -321,7 +332,7 @@ def output_that_ends():
         resource.setrlimit(resource.RLIMIT_FSIZE, (len(line), len(line)))
 
     with tempfile.TemporaryFile() as out:
-        check(BUILT, ["serve", "2", str(port), USER, SECRET, "sales"], 1, told=b"queue_sites: write failed\n", out=out, before=limit_files)
+        check(BUILT, ["serve", "2", str(port), USER, SECRET, "sales"], 1, errors=b"queue_sites: write failed\n", out=out, before=limit_files)
         out.seek(0)
         need(out.read() == line, f"a server whose output takes {len(line)} bytes writes other bytes than {line!r}")
     return "a standard output that takes one line of two"
@@ -342,12 +353,12 @@ def secrets_of_files():
     with tempfile.TemporaryDirectory() as room:
         name = f"{room}/secret"
         words = ["serve", "--secret-file", name, "1", "24000", USER, "sales"]
-        check(BUILT, words, 1, told=b"queue_sites: cannot read the secret's file: No such file or directory (os error 2)\n")
-        check(BUILT, ["serve", f"--secret-file={room}", *words[3:]], 1, told=b"queue_sites: cannot read the secret's file: Is a directory (os error 21)\n")
+        check(BUILT, words, 1, errors=b"queue_sites: cannot read the secret's file: No such file or directory (os error 2)\n")
+        check(BUILT, ["serve", f"--secret-file={room}", *words[3:]], 1, errors=b"queue_sites: cannot read the secret's file: Is a directory (os error 21)\n")
         for content in (b"", b"\n", b"a" * 81, b" s3\n", b"s3 \n", b"s\0003\n"):
             with open(name, "wb") as file:
                 file.write(content)
-            check(BUILT, words, 2, told=b"queue_sites: bad text\n")
+            check(BUILT, words, 2, errors=b"queue_sites: bad secret\n")
         for content, secret in ((b"s3", "s3"), (b"s3\n", "s3"), (b"s3\r\nmore\n", "s3"), (b"a" * 80 + b"\r\n" + b"b" * 9_999, "a" * 80), (b"@s3\n", "@s3")):
             with open(name, "wb") as file:
                 file.write(content)
@@ -363,7 +374,7 @@ def secrets_of_files():
     return "secrets in files"
 
 
-def greets_as_it_is_told():
+def greeting_of_the_words():
     """At each site the greeting is the server's own, or that of its command line; an ask before the login is refused, and so is a login with
     another secret."""
     for greeting, options in ((GREETING, []), ("Asterisk Call Manager/5.0.1", ["--greeting", "Asterisk Call Manager/5.0.1"])):
@@ -398,7 +409,7 @@ def refuses_at(port, address):
     return False
 
 
-def listens_where_it_is_told():
+def addresses_of_the_words():
     """A server listens at the address of its command line alone, and else at 127.0.0.1 alone."""
     for address, other, options in (("127.0.0.1", "127.0.0.2", []), ("127.0.0.2", "127.0.0.1", ["--bind", "127.0.0.2"])):
         with Server(2, options=options, address=address) as server:
@@ -445,6 +456,7 @@ def sessions():
 def sessions_of_files():
     """Sessions of the cases are written over a connection byte for byte, where the client's bytes come at once and where they come one by one."""
     them = sessions()
+    need(them, "no case is a session of a server")
     for name, (given, user, secret, greeting, queues), wanted in them:
         options = [] if greeting is None else [f"--greeting={greeting}"]
         for size in (len(given) or 1, 1):
@@ -502,7 +514,7 @@ def clients_at_once(sites=8, asks=1_000):
             reports = {shown(server, site) for site in range(sites)}
         seconds = time.monotonic() - asked
         server.rests()
-        server.stop_silent()
+        server.stop_caught_up()
     return f"{SLOTS * sites} clients of {sites} sites, with {asks:,} asks each; all sites showed the same {seconds:.1f} seconds after the last"
 
 
@@ -523,7 +535,7 @@ def members_of_their_own(sites=8, members=100):
             it.result()
         for site in range(sites):
             until_shown(server, site, b"ListItems: %d\r\n" % (SLOTS * sites * members + 1))
-        server.stop_silent()
+        server.stop_caught_up()
     return f"{SLOTS * sites * members:,} members of {sites} sites, each of which shows all"
 
 
@@ -564,9 +576,8 @@ def full_sites(sites, members=9_500, removed=5_000):
             until_shown(server, site, b"ListItems: %d\r\n" % (left + 1), CAUGHT_UP)
         seconds = time.monotonic() - asked
         need(len({shown(server, site) for site in range(sites)}) == 1, "the sites don't show the same")
-        # The line of the last site that has caught up may come late.
-        server.read_log(lambda logged: logged.count(b": behind ") == logged.count(b": caught up "))
-        falls = catches_up(server.stop())
+        falls = server.stop_caught_up()
+        need(falls or sum(added) < 2 * members, "a site knows more members than it may")
     return f"{sum(added):,} members added at two of {sites} sites, which fell behind {falls} times: the same {seconds:.1f} seconds after room was made"
 
 
@@ -581,6 +592,7 @@ def fifth_client():
         first = [server.logged_in() for _ in range(SLOTS)]
         fifth = Client(server.port)
         need(not select.select([fifth.socket], [], [], 0.3)[0], "a fifth client is greeted")
+        server.waits(fifth)
         first.pop().leave()
         need(fifth.line() == f"{GREETING}\r\n".encode(), "a fifth client isn't greeted")
         fifth.succeed("Login", Username=USER, Secret=SECRET)
@@ -596,6 +608,7 @@ def places():
     with Server(2, options=["--sessions", "1"]) as server:
         first, second = server.logged_in(1), Client(server.port + 1)
         need(not select.select([second.socket], [], [], 0.3)[0], "a second client is greeted where there is one place")
+        server.waits(second, 1)
         first.leave()
         second.line()
         second.leave()
@@ -614,10 +627,12 @@ def clients_in_line(times=10):
         for _ in range(times):
             second = Client(server.port)
             need(not select.select([second.socket], [], [], 0.2)[0], "a second client is greeted where there is one place")
+            server.waits(second)
             third = Client(server.port)
             holder.leave()
             need(second.line() == f"{GREETING}\r\n".encode(), "a client that waits isn't greeted")
             need(not select.select([third.socket], [], [], 0.1)[0], "a client is greeted while another has the one place")
+            server.waits(third)
             waited += [(0, it.name, "waits for a place") for it in (second, third)]
             second.leave()
             third.line()
@@ -695,20 +710,20 @@ def clients_that_linger():
         fifth, started = Client(server.port), time.monotonic()
         for it in them:
             it.ask("Logoff")
-        jobs = [threads.submit(drip, it, b"a", 0.1, 4) for it in them[:2]]
+        jobs = [threads.submit(drip, it, b"a", 0.1, 8) for it in them[:2]]
         served = [fifth, *(Client(server.port) for _ in range(SLOTS - 1))]
         for it in served:
             it.line()
         waited = time.monotonic() - started
-        need(waited < 3, f"places are held {waited:.1f} seconds behind a Logoff")
+        need(waited < 6, f"places are held {waited:.1f} seconds behind a Logoff")
         for it in jobs:
             it.result()
         for it in [*them, *served]:
             it.socket.close()
         # Of the others that wait, those are logged whose turn comes before a place is left.
-        told = server.stop()
+        log = server.stop()
         waiting = b"queue_sites: site 0: client %b: waits for a place\n" % fifth.name.encode()
-        need(waiting in told and all(it.endswith(b": waits for a place") for it in told.splitlines()), f"the server logged {told!r}")
+        need(waiting in log and all(it.endswith(b": waits for a place") for it in log.splitlines()), f"the server logged {log!r}")
     return "clients that linger behind their Logoffs"
 
 
@@ -847,8 +862,8 @@ def hostile_clients():
         need(server.memory() - before < 64 << 20, f"the server had {before:,} bytes of memory and has {server.memory():,}")
         need(server.process.poll() is None, "the server has ended")
         known = re.compile(rb"queue_sites: site 0: client \S+: (waits for a place|session ended: (line too long|too many fields); \d+ commands behind it were not done)")
-        told = server.stop()
-        need(all(map(known.fullmatch, told.splitlines())), f"the server logged {told!r}")
+        log = server.stop()
+        need(all(map(known.fullmatch, log.splitlines())), f"the server logged {log!r}")
     return "garbage, resets, and 200 connections"
 
 
@@ -871,8 +886,8 @@ def no_connections():
         for it in more:
             it.line()
             it.leave()
-        told = server.stop()
-        need(re.fullmatch(rb"(queue_sites: site 0: no connection: .+\n){1,12}", told), f"no connections are logged as {told!r}")
+        log = server.stop()
+        need(re.fullmatch(rb"(queue_sites: site 0: no connection: .+\n){1,12}", log), f"no connections are logged as {log!r}")
     return "a system that has no connections to give"
 
 
@@ -998,11 +1013,11 @@ def clients_that_hold_on():
         for it in [slow, *held, *deaf, sleepy]:
             it.socket.close()
         server.read_log(lambda logged: logged.count(b": given up: ") >= len(held) + len(deaf) + 1)
-        told = server.stop()
+        log = server.stop()
         logged = [(0, it.name, f"given up: no login within {SLOT_SECONDS} s") for it in held]
         logged += [(1, it.name, f"given up: less than 4096 bytes read in {SLOT_SECONDS} s") for it in (*deaf, sleepy)]
-        lines = [it for it in told.decode().splitlines() if not it.endswith(": waits for a place")]
-        need(sorted(lines) == sorted(f"queue_sites: site {site}: client {name}: {text}" for site, name, text in logged), f"the server logged {told!r}")
+        lines = [it for it in log.decode().splitlines() if not it.endswith(": waits for a place")]
+        need(sorted(lines) == sorted(f"queue_sites: site {site}: client {name}: {text}" for site, name, text in logged), f"the server logged {log!r}")
     return "clients that send nothing, no end or no login, that read nothing or too little, and that read slowly"
 
 
@@ -1016,7 +1031,7 @@ def four_silent_clients():
         fifth = Client(server.port)
         fifth.line()
         waited = time.monotonic() - started
-        need(SLOT_SECONDS - 1 < waited < SLOT_SECONDS + 1, f"a fifth client waits {waited:.1f} seconds")
+        need(SLOT_SECONDS - 1 < waited < SLOT_SECONDS + 4, f"a fifth client waits {waited:.1f} seconds")
         for it in four:
             need(it.rest() == b"", "a client that is disconnected gets bytes")
             it.socket.close()
@@ -1037,7 +1052,7 @@ def fail_to_log_in(server, clients):
 
 def deaf_standard_error(clients=300):
     """Where nobody reads standard error, which is full then, clients are served on. What was logged meanwhile, and isn't written, is counted."""
-    with Server(2) as server, concurrent.futures.ThreadPoolExecutor(SLOTS) as threads:
+    with Server(2, options=["--sessions", "64"]) as server, concurrent.futures.ThreadPoolExecutor(SLOTS) as threads:
         for it in [threads.submit(fail_to_log_in, server, clients) for _ in range(SLOTS)]:
             it.result()
         started = time.monotonic()
@@ -1045,30 +1060,29 @@ def deaf_standard_error(clients=300):
         it.succeed("QueueAdd", Queue="sales", Interface="SIP/1")
         it.leave()
         until_shown(server, 1, b"Location: SIP/1\r\n")
-        need(time.monotonic() - started < 2, "a server whose log nobody reads serves slowly")
+        need(time.monotonic() - started < 8, "a server whose log nobody reads serves slowly")
         find = lambda logged: re.search(rb"queue_sites: (\d+) log lines dropped\n", logged)
         dropped = find(server.read_log(find))
         need(dropped, f"of {clients * SLOTS * (TRIES + 1)} lines none is logged as dropped")
         lines = server.stop().splitlines()
         number = sum(b": login failed" in it or b": closed after" in it for it in lines) + int(dropped[1])
-        waiting = sum(b": waits for a place" in it for it in lines)
         all_events = clients * SLOTS * (TRIES + 1)
-        need(all_events <= number + waiting and int(dropped[1]) > 0, f"{number} lines are logged of {all_events}")
+        need(number == all_events and int(dropped[1]) > 0, f"{number} lines are logged or dropped of {all_events}")
     return f"a standard error that nobody reads: {int(dropped[1]):,} lines dropped"
 
 
 def idle_clients():
     """A client that has logged in and is silent for the idle time loses its place then, and no earlier; one that asks in time doesn't, nor does one
     that sends some of a message in time. Where the idle time is 0 a silent client keeps its place."""
-    with Server(1, options=["--idle", "1"]) as server, concurrent.futures.ThreadPoolExecutor(1) as threads:
+    began = time.monotonic()
+    with Server(1, options=["--idle", "3"]) as server, concurrent.futures.ThreadPoolExecutor(1) as threads:
         quiet, busy, slow = server.logged_in(), server.logged_in(), server.logged_in()
         started = time.monotonic()
-        job = threads.submit(drip, slow, b"A", 0.4, 2.4)
-        while time.monotonic() < started + 2.5:
+        job = threads.submit(drip, slow, b"A", 0.4, 7)
+        while time.monotonic() < started + 7.2:
             is_over = select.select([quiet.socket], [], [], 0)[0] != []
-            passed = time.monotonic() - started
-            need(passed > 0.7 or not is_over, "a silent client loses its place too early")
-            need(passed < 2.4 or is_over, "a silent client keeps its place")
+            need(time.monotonic() - began > 2.9 or not is_over, "a silent client loses its place too early")
+            need(time.monotonic() - started < 7 or is_over, "a silent client keeps its place")
             busy.ask("QueueStatus")
             time.sleep(0.2)
         need(quiet.rest() == b"", "a silent client gets bytes")
@@ -1077,7 +1091,7 @@ def idle_clients():
         need(b"Message: Missing action in request\r\n" in slow.until(b"\r\n\r\n"), "a client that sends slowly isn't answered")
         slow.leave()
         busy.leave()
-        server.stop_logged((0, quiet.name, "given up: silent for 1 s"))
+        server.stop_logged((0, quiet.name, "given up: silent for 3 s"))
     with Server(1, options=["--idle", "0"]) as server, server.logged_in() as it:
         time.sleep(2)
         it.leave()
@@ -1183,23 +1197,23 @@ def refused_allocations(room):
             if status is None:
                 serves_on(server)
         finally:
-            told = server.stop()
+            log = server.stop()
         if status is None:
-            lines += told.splitlines()
+            lines += log.splitlines()
             continue
         ended += 1
         texts = (b"queue_sites: out of memory\n", b"queue_sites: no thread\n")
-        need(status == 1 and told in texts, f"where allocation {number} is refused the status is {status}, and the server logs {told!r}")
+        need(status == 1 and log in texts, f"where allocation {number} is refused the status is {status}, and the server logs {log!r}")
         need(server.lines().startswith(server.printed), f"where allocation {number} is refused {server.printed!r} is printed")
     for it in lines:
-        need(TOLD.fullmatch(it), f"where an allocation is refused the server logs {it!r}")
+        need(LOGGED_OUT_OF_MEMORY.fullmatch(it), f"where an allocation is refused the server logs {it!r}")
     need(any(b"session ended" in it for it in lines), "no session is logged as ended when out of memory")
     return f"each of the {allocations} allocations of a short run refused in turn: {ended} ended it, the others let it serve on"
 
 
 def run_all():
     """Runs all tests. Returns lines that report what was run."""
-    tests = [wrong_words, ports_that_are_taken, output_that_ends, two_clients, secrets_of_files, greets_as_it_is_told, listens_where_it_is_told,
+    tests = [wrong_words, ports_that_are_taken, output_that_ends, two_clients, secrets_of_files, greeting_of_the_words, addresses_of_the_words,
              sessions_of_files, clients_at_once, members_of_their_own,
              sites_that_are_full, fifth_client, places, clients_in_line, verbose_log, failed_logins, replies_before_the_end, clients_that_linger,
              hostile_streams, hostile_clients, no_connections, connections_not_prepared, too_many_reads, idle_clients, long_reports, clients_that_hold_on, four_silent_clients, deaf_standard_error, signals]

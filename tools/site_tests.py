@@ -23,7 +23,7 @@ def wrong_words():
     for words in ("", "audit", "audit 3", "audit 0 40", "audit 9 40", "audit 3 0", "audit 3 many", "audit 3 1000001", "audit 3 40 1",
                   "dance 3 40", "journals 0 40", "world 3", "threads 3 3", "threads 0 3 20", "threads 3 9 20", "threads 3 3 0",
                   "threads 3 3 20 1"):
-        check(PROGRAM, words.split(), 2, told=USAGE)
+        check(PROGRAM, words.split(), 2, errors=USAGE)
 
 
 def refused_allocations(room):

@@ -6,7 +6,8 @@
 - how long a status waits while 32 clients add, and while nobody does
 - how long a site takes to listen that has 16,384 members and 10,000 steps
 
-TMPDIR names another folder. It takes about two minutes."""
+Each row is that of the run of several from which the host took the least, as of tools/server_load.py. TMPDIR names another folder. It takes
+about five minutes."""
 import concurrent.futures
 import contextlib
 import os
@@ -19,7 +20,7 @@ import tempfile
 import time
 
 from program_tests import Failed, compiled_refusal
-from server_load import compiled_clients, measured
+from server_load import compiled_clients, least_stolen, measured
 from server_tests import BUILT, PATIENCE, free_ports, need
 from store_tests import COLUMNS, MOST_ROWS, rows_of, stored
 
@@ -31,9 +32,10 @@ MEMBERS = 16_384
 BODY = bytes(40)
 
 
-def show(what, clients, figures, seconds=SECONDS):
-    count, _, half, most, longest = figures
-    print(f"{what:<38} {clients:>7} {count / seconds:>9,.0f} {half / 1e3:>9,.0f} us {most / 1e3:>9,.0f} us {longest / 1e3:>9,.0f} us", flush=True)
+def show(what, clients, load):
+    share, (count, _, half, most, longest) = least_stolen(load)
+    times = " ".join(f"{it / 1e3:>9,.0f} us" for it in (half, most, longest))
+    print(f"{what:<38} {clients:>7} {count / SECONDS:>9,.0f} {times} {share:>7.1%}", flush=True)
 
 
 def commits():
@@ -124,30 +126,35 @@ def durable_redis(room, more):
             process.terminate()
 
 
+def redis_load(program, clients, more):
+    """How many durable changes Redis answers."""
+    with tempfile.TemporaryDirectory() as folder, durable_redis(folder, more) as port:
+        return measured(program, "redis", port, 1, clients, SECONDS, "hset")
+
+
 def has_redis():
     return shutil.which("redis-server", path=f"{os.environ['PATH']}:/usr/sbin") is not None
 
 
 def changes(program, more):
     """Shows how many changes are done a second, with more words in the environment of each program that does them."""
-    show("commit by Python's sqlite3", 1, commits_apart(more))
+    show("commit by Python's sqlite3", 1, lambda: commits_apart(more))
     for clients in CLIENTS:
-        show("add, durable", clients, durable_adds(program, clients, more))
+        show("add, durable", clients, lambda it=clients: durable_adds(program, it, more))
     for clients in CLIENTS if has_redis() else []:
-        with tempfile.TemporaryDirectory() as folder, durable_redis(folder, more) as port:
-            show("Redis HSET, appendfsync always", clients, measured(program, "redis", port, 1, clients, SECONDS, "hset"))
+        show("Redis HSET, appendfsync always", clients, lambda it=clients: redis_load(program, it, more))
 
 
 def main():
     need(os.path.exists(BUILT), f"{BUILT} isn't built")
-    print(f"{'request':<38} {'clients':>7} {'a second':>9} {'50%':>12} {'99%':>12} {'all':>12}")
+    print(f"{'request':<38} {'clients':>7} {'a second':>9} {'50%':>12} {'99%':>12} {'all':>12} {'stolen':>7}")
     with tempfile.TemporaryDirectory() as room:
         program = compiled_clients(room)
         changes(program, {})
         print(f"each sync takes {SYNC_DELAY} us more")
         changes(program, {"LD_PRELOAD": compiled_refusal(room, "slow_disk"), "SYNC_DELAY": str(SYNC_DELAY)})
-        show("status, nobody adds", 1, statuses(program, 0))
-        show("status, while 32 clients add", 1, statuses(program, 32))
+        show("status, nobody adds", 1, lambda: statuses(program, 0))
+        show("status, while 32 clients add", 1, lambda: statuses(program, 32))
     rows, listens, answers = start_of_a_full_site()
     print(f"start of a site with {MEMBERS:,} members and {rows:,} rows: it listens after {listens:.2f} s and answers after {answers:.2f} s")
     if not has_redis():

@@ -20,7 +20,7 @@ import time
 
 from program_tests import NO_COMPILER, Failed, check, compiled_refusal, read
 from server_tests import (
-    BUILT, CAUGHT_UP, GREETING, PATIENCE, SECRET, SETTLED, TOLD, USER, Client, Server, free_ports, need, run_refused, shown, until_shown,
+    BUILT, CAUGHT_UP, GREETING, OF_PEER, PATIENCE, SECRET, SETTLED, LOGGED_OUT_OF_MEMORY, USER, Client, Server, free_ports, need, run_refused, shown, until_shown,
 )
 
 # How many members each owner has at most.
@@ -75,7 +75,9 @@ class Owner:
         else:
             action, fields = "QueuePenalty", {"Penalty": penalty}
         self.asked = interface, penalty
-        client.succeed(action, Queue="sales", Interface=interface, **fields)
+        reply = client.ask(action, Queue="sales", Interface=interface, **fields)
+        # A wrong reply counts also where the server may end.
+        assert reply.startswith(b"Response: Success\r\n"), f"{action} is answered {reply!r}"
         self.known, self.asked, self.done = self.after(), None, self.done + 1
 
     def after(self):
@@ -212,10 +214,10 @@ def new_lines(folder, sites):
 
 def stop_new(server, folder):
     """Ends a server that has made the stores of its sites, and has logged nothing else."""
-    told = new_lines(folder, server.sites)
-    server.read_log(lambda logged: len(logged) >= len(told))
+    wanted = new_lines(folder, server.sites)
+    server.read_log(lambda logged: len(logged) >= len(wanted))
     found = server.stop()
-    need(found == told, f"a server whose stores are new logs {found!r}")
+    need(found == wanted, f"a server whose stores are new logs {found!r}")
 
 
 def greets_with_stores():
@@ -252,9 +254,9 @@ def kills(times=20, clients=32, sites=2):
                 working = Working(owners, lambda it: (server, it.site), turn * clients)
                 time.sleep(lot.uniform(0.05, 0.5))
                 working.is_over.set()
-                told = server.stop(signal.SIGKILL)
+                log = b"".join(it for it in server.stop(signal.SIGKILL).splitlines(keepends=True) if not OF_PEER.fullmatch(it.rstrip(b"\n")))
                 working.wait()
-                need(told == (b"" if turn else new_lines(folder, sites)), f"a server with stores logged {told!r}")
+                need(log == (b"" if turn else new_lines(folder, sites)), f"a server with stores logged {log!r}")
         with stored(folder, sites) as server:
             check_shown(server, owners)
             server.stop(signal.SIGKILL)
@@ -339,7 +341,7 @@ def kept_rows():
     return new_bases(True)
 
 
-def told_of(folder, site, *faults):
+def refusals_of(folder, site, *faults):
     """What a server says that can't use the store of a site."""
     return [f"queue_sites: store {folder}/site-{site}.db: {it}\n".encode() for it in faults]
 
@@ -351,7 +353,7 @@ def refuses(folder, site, *faults, sites=1, queues=("sales",), program=BUILT, **
     words = ["serve", "--store", folder, str(sites), str(free_ports(sites)), USER, SECRET, *queues]
     how = {"preexec_fn": how.get("before"), "capture_output": True, "timeout": PATIENCE, "check": False}
     ran = subprocess.run([program, *words], **how)
-    need(ran.returncode == 1 and ran.stdout == b"" and ran.stderr in told_of(folder, site, *faults),
+    need(ran.returncode == 1 and ran.stdout == b"" and ran.stderr in refusals_of(folder, site, *faults),
          f"where a server should say {faults!r} of a store its status is {ran.returncode}, and it says {ran.stdout + ran.stderr!r}")
     after = files_of(folder, site) if os.path.isdir(folder) else {}
     content = lambda files, name: b"" if len(files.get(name, b"")) < PAGE and name.endswith("-wal") else files.get(name, b"")
@@ -443,7 +445,7 @@ def files_in_use():
         with stored(folder) as server:
             need(b"ListItems: 7\r\n" in shown(server, 1), "a store shows other members than before")
             words = ["serve", "--store", folder, "1", str(free_ports(1)), USER, SECRET, "sales"]
-            check(BUILT, words, 1, told=told_of(folder, 0, "in use")[0])
+            check(BUILT, words, 1, errors=refusals_of(folder, 0, "in use")[0])
             with contextlib.closing(sqlite3.connect(f"{folder}/site-0.db", timeout=0)) as other:
                 try:
                     other.execute("DELETE FROM step")
@@ -456,7 +458,7 @@ def files_in_use():
         holder = "import sqlite3, sys; it = sqlite3.connect(sys.argv[1]); it.execute('BEGIN IMMEDIATE'); print(flush=True); input()"
         with subprocess.Popen([sys.executable, "-c", holder, f"{folder}/site-0.db"], stdin=subprocess.PIPE, stdout=subprocess.PIPE) as process:
             process.stdout.readline()
-            check(BUILT, words, 1, told=told_of(folder, 0, "in use")[0])
+            check(BUILT, words, 1, errors=refusals_of(folder, 0, "in use")[0])
             process.communicate(b"\n")
         with stored(folder) as server:
             need(b"ListItems: 8\r\n" in shown(server, 1), "a store shows other members behind refused starts")
@@ -484,6 +486,14 @@ def damaged_files(flips=200):
     return f"{flips} flipped bits ({', '.join(f'{count} {text}' for text, count in sorted(said.items()))}), and files that are cut"
 
 
+def readable_members(folder):
+    """The members to which the rows of a site's store lead that SQLite reads; nothing where it reads none."""
+    try:
+        return members_of(rows_of(folder, 0))
+    except (Failed, sqlite3.DatabaseError):
+        return None
+
+
 def damaged_logs(flips=10, adds=30):
     """Of a log in which a bit was flipped, or that was cut, a site has the changes before that, as SQLite has them, or it is refused."""
     lot = random.Random(4)
@@ -499,15 +509,17 @@ def damaged_logs(flips=10, adds=30):
         for number in range(flips):
             damaged, at = copied(folder, room, f"log-{number}"), lot.randrange(len(log))
             put(damaged, "site-0.db-wal", log[:at] + bytes([log[at] ^ 1 << lot.randrange(8)]) + log[at + 1:] if number % 2 else log[:at])
+            wanted = readable_members(damaged)
             server = stored(damaged, 1)
             if server.wait_until_it_listens():
                 found = members(shown(server))
                 server.stop_silent()
                 need(found == {f"SIP/{it}": 0 for it in range(len(found))}, f"of a damaged log a site has {found!r}")
+                need(found.keys() == wanted, f"of a damaged log a site has {found!r}, and SQLite {wanted!r}")
                 counts.append(len(found))
             else:
-                told = server.stop()
-                need(server.process.returncode == 1 and told in told_of(damaged, 0, "damaged file", "no store"), f"a damaged log: {told!r}")
+                errors = server.stop()
+                need(server.process.returncode == 1 and errors in refusals_of(damaged, 0, "damaged file", "no store"), f"a damaged log: {errors!r}")
     return f"{flips} damaged logs, of which {len(counts)} start with {min(counts, default=0)} to {max(counts, default=0)} of {adds} changes"
 
 
@@ -538,9 +550,9 @@ def rolled_back(members_of=3):
                     answers = client.rest()
                 need(b"Added interface" not in answers, f"a site that was rolled back answers {answers!r}")
                 need(server.process.wait(PATIENCE) == 1, f"a server with a site that was rolled back ends with status {server.process.returncode}")
-                told = server.stop()
+                log = server.stop()
                 line = b"queue_sites: site 0: ends: rolled back: a frame of site 1: not this site's own\n"
-                need(told.count(line) == 1, f"a server with a site that was rolled back logs {told!r}")
+                need(log.count(line) == 1, f"a server with a site that was rolled back logs {log!r}")
     return "sites that were rolled back: an older copy, and a store that is lost"
 
 
@@ -593,10 +605,10 @@ def full_disks(clients=4):
                 working = Working(owners, lambda it: (server, 0), 0, may_end=True)
                 working.wait()
                 need(server.process.wait(PATIENCE) == 1, f"a server whose disk is full ends with status {server.process.returncode}")
-                told = server.stop()
-                lines = [it for it in told.splitlines(keepends=True) if b": session ended: desk down; " not in it]
+                log = server.stop()
+                lines = [it for it in log.splitlines(keepends=True) if b": session ended: desk down; " not in it]
                 wanted = new_lines(disk, 1) + b"queue_sites: site 0: store failed: disk full\n"
-                need(b"".join(lines) == wanted, f"a server whose disk is full logs {told!r}")
+                need(b"".join(lines) == wanted, f"a server whose disk is full logs {log!r}")
             shutil.copytree(disk, f"{room}/larger")
         need(sum(it.done for it in owners) > 20, "the disk was full at once")
         with stored(f"{room}/larger", 1) as server:
@@ -611,10 +623,10 @@ def some_of(allocations, number):
     return sorted({1 + place * (allocations - 1) // (number - 1) for place in range(number)})
 
 
-def remove_blank(folder, told):
+def remove_blank(folder, errors):
     """Removes the files of a store that was not made whole, as docs/operation.md says: a server has refused it, and it has no table."""
-    site = next((it for it in range(2) if told in told_of(folder, it, "no store")), None)
-    need(site is not None and not tables_of(folder, site), f"a server that starts again says {told!r}")
+    site = next((it for it in range(2) if errors in refusals_of(folder, it, "no store")), None)
+    need(site is not None and not tables_of(folder, site), f"a server that starts again says {errors!r}")
     for name in files_of(folder, site):
         os.remove(f"{folder}/{name}")
 
@@ -643,17 +655,17 @@ def end_refused(room, library, number):
     counted = f"{room}/allocations-{number}"
     more = {"LD_PRELOAD": library, "REFUSED_ALLOCATION": str(number), "ALLOCATIONS_FILE": counted}
     server, status = run_refused(more, ["--store", folder])
-    told = server.stop()
-    texts = [b"queue_sites: out of memory\n", b"queue_sites: no thread\n", *told_of(folder, 0, "out of memory"), *told_of(folder, 1, "out of memory")]
-    lines = [it for it in told.splitlines(keepends=True) if it not in new_lines(folder, 2).splitlines(keepends=True)]
-    others = [it for it in lines if not TOLD.fullmatch(it.strip())]
+    log = server.stop()
+    texts = [b"queue_sites: out of memory\n", b"queue_sites: no thread\n", *refusals_of(folder, 0, "out of memory"), *refusals_of(folder, 1, "out of memory")]
+    lines = [it for it in log.splitlines(keepends=True) if it not in new_lines(folder, 2).splitlines(keepends=True)]
+    others = [it for it in lines if not LOGGED_OUT_OF_MEMORY.fullmatch(it.strip())]
     how = "served" if status is None else "failed" if any(b": store failed: " in it for it in lines) else "ended"
     is_right = {
         "served": not others,
         "failed": status == 1 and len(others) == 1 and b": store failed: " in others[0],
         "ended": status == 1 and len(others) == 1 and others[0] in texts,
     }
-    need(is_right[how], f"where allocation {number} is refused a server has {how}, its status is {status}, and it logs {told!r}")
+    need(is_right[how], f"where allocation {number} is refused a server has {how}, its status is {status}, and it logs {log!r}")
     try:
         starts_again(folder, how == "served")
     except Failed as why:
