@@ -3,8 +3,8 @@ the whole reply, and only then sends the next. Prints, for each load, the reques
 second, and within how many microseconds half of the replies arrive, and 99 of 100. Where Debian's redis-server is installed, the same
 clients measure it in the same run, by `HSET`. Clients and servers share the processors.
 
-A machine may be one of several on a host that runs others on its processors meanwhile. So each load runs several times; the row shows the
-run from which the host took the least, and its share of the processors' time."""
+A machine may be one of several on a host, which runs the others on its processors, too. So each load runs again until the host takes less
+than 1 % of the processors' time from it, at most 12 times. A row shows the run from which it took the least, and its share."""
 import contextlib
 import functools
 import os
@@ -20,7 +20,8 @@ from program_tests import Failed
 from server_tests import PATIENCE, Server, fill, free_ports
 
 SECONDS = 3
-RUNS = 5  # of each load
+MOST_RUNS = 12  # of each load
+QUIET = 0.01  # the share of the processors' time that the host may take
 # How many clients there are, at how many sites, and how many members a queue has whose status each request asks for; None: each request sets
 # a penalty.
 LOADS = [(1, 1, None), (4, 1, None), (32, 1, None), (1, 8, None), (4, 8, None), (32, 8, None), (1, 1, 1_000), (4, 1, 1_000)]
@@ -97,8 +98,13 @@ def watched(load):
 
 
 def least_stolen(load):
-    """What `watched` returns of the run of several from which the host took the least."""
-    return min((watched(load) for _ in range(RUNS)), key=lambda it: (it[0], -it[1][0]))
+    """What `watched` returns of the run of a load from which the host took the least, as the head of this file says."""
+    best = watched(load)
+    for _ in range(1, MOST_RUNS):
+        if best[0] < QUIET:
+            break
+        best = min(best, watched(load), key=lambda it: it[0])
+    return best
 
 
 def show(what, clients, sites, members, load):

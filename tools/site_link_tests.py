@@ -355,7 +355,7 @@ def slow_lines(adds=400):
             mesh.sites[0].add(f"SIP/cut-{turn}")
         started = time.monotonic()
         shown(mesh.sites[0])
-        need(time.monotonic() - started < 0.5, "a site whose lines are slow answers late")
+        need(time.monotonic() - started < 2, "a site whose lines are slow answers late")
         seconds = mesh.until_equal(3 * (adds // 4) + 8, PATIENCE, started)
     return f"slow lines that are cut within frames: equal after {seconds:.1f} s"
 
@@ -393,7 +393,7 @@ def news_over_a_slow_line(number=500, changes=6_000):
         until_shown(second, 0, b"Location: SIP/news\r\n", NEWS)
         seconds, carried = time.monotonic() - started, mesh.proxies[0, 1].carried - carried
         need(all(b": down: " not in it.log_so_far() for it in mesh.sites.values()), "a slow link falls")
-        need(slowest < 0.5, f"beside a slow line an ask takes {slowest:.3f} s")
+        need(slowest < 2, f"beside a slow line an ask takes {slowest:.3f} s")
         for it in mesh.proxies.values():
             it.rate = None
         mesh.until_equal(number + 1, HEALED)
@@ -944,7 +944,7 @@ def clients_of_a_site():
     """A site greets, has 16 places, closes after five failed logins, and gives up clients that don't log in or are silent, each with its line.
     Where nobody reads its log it serves on."""
     greeting = "Asterisk Call Manager/5.0.1"
-    options = ["--greeting", greeting, "--patience", "2", "--idle", "3"]
+    options = ["--greeting", greeting, "--patience", "4", "--idle", "5"]
     with tempfile.TemporaryDirectory() as room, alone(room, options=options) as site:
         with site.client() as it:
             need(it.greeting == f"{greeting}\r\n".encode(), f"the greeting is {it.greeting!r}")
@@ -958,11 +958,11 @@ def clients_of_a_site():
         need(not select.select([last.socket], [], [], 0.3)[0], f"a client is greeted that is not one of {PLACES}")
         site.logs(f"client {last.name}: waits for a place")
         last.line()
-        need(1 < time.monotonic() - started < 4, f"a client waits {time.monotonic() - started:.1f} seconds for a place")
+        need(0.5 < time.monotonic() - started < 8, f"a client waits {time.monotonic() - started:.1f} seconds for a place")
         for it in them:
-            site.logs(f"client {it.name}: given up: no login within 2 s", 3)
+            site.logs(f"client {it.name}: given up: no login within 4 s", 6)
             it.socket.close()
-        site.logs(f"client {quiet.name}: given up: silent for 3 s", 4)
+        site.logs(f"client {quiet.name}: given up: silent for 5 s", 8)
     with tempfile.TemporaryDirectory() as room, alone(room) as site, concurrent.futures.ThreadPoolExecutor(PLACES) as threads:
         def fail(_):
             with site.client() as it:

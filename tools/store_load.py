@@ -6,8 +6,8 @@
 - how long a status waits while 32 clients add, and while nobody does
 - how long a site takes to listen that has 16,384 members and 10,000 steps
 
-Each row is that of the run of several from which the host took the least, as of tools/server_load.py. TMPDIR names another folder. It takes
-about five minutes."""
+Each load runs until the host takes little from it, as tools/server_load.py says. TMPDIR names another folder. It takes one to twelve
+minutes."""
 import concurrent.futures
 import contextlib
 import os
