@@ -37,6 +37,7 @@ SLOW, NEWS = 30_000, 30
 QUEUES = ("sales", "support")
 # Why a site ends of whose number others have frames that it hasn't made.
 NOT_MINE = "rolled back: another site has frames under this site's number that this site has not made"
+CONFLICT = "other sites have other values under numbers of changes that this site knows"
 # How a connection is ended with a reset.
 RESET = struct.pack("ii", 1, 0)
 # Within what time a site learns from its peers that it was rolled back: they dial it again after 2.25 seconds at most.
@@ -813,6 +814,28 @@ def sites_that_end():
     return f"sites that end, which say why after {said:.1f} s and end after {ended:.1f} s: another store, an older copy, another's frames"
 
 
+def frames_that_conflict():
+    """A site refuses a frame that gives a change of a third site another value, and goes on. It ends once it has refused frames of most of its
+    peers so."""
+    with tempfile.TemporaryDirectory() as room, Site(room, 0, free_ports(1), [free_ports(1), free_ports(1)]) as site:
+        def hands(number, interface):
+            peer = dialed(site, number)
+            peer.send(peer.tagged(frame_of(number, 1, interface, dot_site=5)))
+            return peer
+
+        hands(7, "SIP/first")
+        until_shown(site, 0, b"Location: SIP/first\r\n", REFUSED)
+        need(hands(8, "SIP/other").is_closed(), "a link goes on behind a frame that is refused")
+        site.logs("link from site 8 at ADDRESS: down: frame refused: conflict", REFUSED)
+        site.add("SIP/own")
+        found = members(shown(site))
+        need(found.keys() == {"SIP/first", "SIP/own"}, f"a site that refuses a frame shows {found!r}")
+        hands(9, "SIP/last")
+        site.listens = time.monotonic()
+        ends_by_itself(site, CONFLICT, asks=False)
+    return "frames that conflict"
+
+
 def wakes_that_fail():
     """A site ends also if the first connections to its own ports fail, by which it wakes its threads."""
     with tempfile.TemporaryDirectory() as room:
@@ -1072,9 +1095,9 @@ def stores_of_sites():
 
 
 TESTS = [words_of_a_site, stores_of_sites, clients_of_a_site, addresses, three_sites, links_that_are_down, only_by_another, slow_lines,
-         news_over_a_slow_line, restarts, a_peer_of_another_program, hellos_that_are_refused, items_that_are_refused, who_sits_on_the_line,
-         acknowledgements_that_are_refused, sites_that_end, wakes_that_fail, a_start_that_waits, silent_connections, a_peer_that_reads_nothing,
-         refused_allocations]
+         news_over_a_slow_line, restarts, a_peer_of_another_program, hellos_that_are_refused, items_that_are_refused,
+         who_sits_on_the_line, acknowledgements_that_are_refused, sites_that_end, frames_that_conflict, wakes_that_fail,
+         a_start_that_waits, silent_connections, a_peer_that_reads_nothing, refused_allocations]
 # What `all` changes, and what it does besides.
 LONGER = {refused_allocations: all_refused_allocations}
 MORE = [a_late_item]

@@ -14,9 +14,9 @@ pub enum EndReason {
     /// Another site says of this site's number what this site has not made: the number was used before, or its store is an older copy.
     #[error("rolled back: another site has frames under this site's number that this site has not made")]
     NotMine,
-    /// Another site has other values under the number of a change that this site knows: the number was used twice, as where a store was
-    /// lost.
-    #[error("another site has other values under the number of a change that this site knows")]
+    /// Most of the sites that this site dials have other values under numbers of changes that it knows: numbers were used twice, as where a
+    /// store was lost.
+    #[error("other sites have other values under numbers of changes that this site knows")]
     Conflict,
     /// A peer knows another store with this site's number.
     #[error("the site number belongs to another store")]

@@ -31,6 +31,8 @@ struct Known {
     // The sites of which a frame was taken, and those that this site is behind, by their numbers.
     taken: [bool; SITES],
     behind: [bool; SITES],
+    // The sites of which the last frame was refused as `Conflict`.
+    disputed: [bool; SITES],
     // The oldest first.
     causes: Vec<Cause>,
 }
@@ -63,6 +65,7 @@ impl HeardLinks {
             known: Mutex::new(Known {
                 taken: [false; SITES],
                 behind: [false; SITES],
+                disputed: [false; SITES],
                 causes,
             }),
         })
@@ -70,7 +73,26 @@ impl HeardLinks {
 
     // Notes that a frame of this site was taken.
     pub fn note_taken<R: Wait>(&self, rt: &R, site: SiteId) {
-        set(&mut self.known.lock(rt).taken, site, true);
+        let mut known = self.known.lock(rt);
+        set(&mut known.taken, site, true);
+        set(&mut known.disputed, site, false);
+    }
+
+    // Notes that a frame of this site was refused as `Conflict`.
+    pub fn note_disputed<R: Wait>(&self, rt: &R, site: SiteId) {
+        set(&mut self.known.lock(rt).disputed, site, true);
+    }
+
+    // Of how many sites the last frame was refused as `Conflict`.
+    pub fn disputes<R: Wait>(&self, rt: &R) -> usize {
+        let known = self.known.lock(rt);
+        let mut count: usize = 0;
+        for is_disputed in known.disputed.iter() {
+            if *is_disputed {
+                count = count.saturating_add(1);
+            }
+        }
+        count
     }
 
     // Whether a frame of the site of this number was taken.

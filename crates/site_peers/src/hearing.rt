@@ -115,13 +115,26 @@ fn is_itself(fault: HearFault) -> bool {
     )
 }
 
-// Why the site ends after a link that has ended by this fault: the peer refuses it as `TakenNumber` or `OlderCopy`, or it refuses a frame
-// as `NotMine` or `Conflict`. `None`: it doesn't end.
-fn reason_of(fault: HearFault) -> Option<EndReason> {
+// Whether a frame was refused as `Conflict`: of a change that its site knows otherwise.
+fn is_conflict(fault: HearFault) -> bool {
+    matches!(
+        fault,
+        HearFault::Refused(DeskFault::Take(TakeFault::Conflict))
+    )
+}
+
+// Why the site ends after a link that has ended by this fault: the peer refuses it as `TakenNumber` or `OlderCopy`; it refuses a frame as
+// `NotMine`, or one as `Conflict` after those of most of its peers, since of one alone the other site is likely wrong. `None`: it doesn't
+// end.
+fn reason_of<R: Wait, G: Drop>(
+    rt: &R,
+    links: &PeerLinks<G>,
+    fault: HearFault,
+) -> Option<EndReason> {
     match fault {
         HearFault::Hello(fault) => end_reason(fault),
         HearFault::Refused(DeskFault::Take(TakeFault::NotMine)) => Some(EndReason::NotMine),
-        HearFault::Refused(DeskFault::Take(TakeFault::Conflict)) => Some(EndReason::Conflict),
+        _ if is_conflict(fault) && links.is_outvoted(rt) => Some(EndReason::Conflict),
         _ => None,
     }
 }
@@ -175,6 +188,9 @@ fn hear_link<R: Wait + Clock + RandomSource, G: Drop, P: Port<R>>(
     links.heard.forget_cause(rt, address.ip());
     log.log_heard(rt, &peer);
     let fault = hear_frames(rt, alloc, links, log, stream, &peer, keys, port);
+    if is_conflict(fault) {
+        links.heard.note_disputed(rt, site);
+    }
     if links.ending.reason(rt).is_none() {
         log.log_lost(rt, &peer, fault);
     }
@@ -190,7 +206,7 @@ fn end_link<R: Net<Listener = TcpListener, Stream = TcpStream> + Wait + Clock, G
     stream: TcpStream,
     fault: HearFault,
 ) {
-    if let Some(reason) = reason_of(fault) {
+    if let Some(reason) = reason_of(rt, links, fault) {
         end_links(rt, links, log, reason);
     }
     if is_refusal(fault) {
@@ -227,11 +243,11 @@ fn hear_connection<
 
 /// Accepts one connection after another at a listener, and lets the site take the frames that come over each, by this port, until the site
 /// ends. Where the port lacks room or memory for a frame, the frame is dropped, and the peer is asked for a whole each 5 seconds until the
-/// site has caught up. Any other frame that the port refuses ends its link; `NotMine` and `Conflict` end the site, as does a peer that
-/// refuses it as `TakenNumber` or `OlderCopy`. A connection is closed over which nothing comes for 0.5 seconds, or no whole hello for 3; a
-/// link ends over which nothing comes for 4, or whose item takes 60. Lines are logged when a link is up and when it is down, when the site
-/// falls behind a peer and when it has caught up, and when a connection leads to no link for another cause than the last one from its
-/// address. At the end it wakes another thread that accepts links.
+/// site has caught up. Any other frame that the port refuses ends its link; `NotMine` ends the site, as do `Conflict` of most of the peers
+/// that it dials, and a peer that refuses it as `TakenNumber` or `OlderCopy`. A connection is closed over which nothing comes for 0.5
+/// seconds, or no whole hello for 3; a link ends over which nothing comes for 4, or whose item takes 60. Lines are logged when a link is up
+/// and when it is down, when the site falls behind a peer and when it has caught up, and when a connection leads to no link for another
+/// cause than the last one from its address. At the end it wakes another thread that accepts links.
 pub fn hear_peers<
     R: Net<Listener = TcpListener, Stream = TcpStream> + Wait + Clock + RandomSource,
     G: Ring<R> + Drop,

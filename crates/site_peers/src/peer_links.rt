@@ -158,6 +158,17 @@ impl<G: Drop> PeerLinks<G> {
         false
     }
 
+    // Whether this site refused, as `Conflict`, the last frames of more sites than half of those that it dials, itself not counted.
+    pub(crate) fn is_outvoted<R: Wait>(&self, rt: &R) -> bool {
+        let mut others: usize = 0;
+        for peer in &self.peers {
+            if peer.itself.load(Ordering::SeqCst) == 0 {
+                others = others.saturating_add(1);
+            }
+        }
+        self.heard.disputes(rt).saturating_mul(2) > others
+    }
+
     /// Whether the site ends, and why.
     pub fn ending(&self) -> &Ending {
         &self.ending

@@ -157,10 +157,10 @@ fn assert_hears(
 }
 
 #[test]
-fn a_desk_rings_at_each_change_alone(rt: HostRuntime) {
+fn a_desk_rings_at_each_change_and_lost_answer_alone(rt: HostRuntime) {
     let alloc = rt.alloc();
-    assert_hears(&rt, alloc, 0, 0, false);
-    assert_hears(&rt, alloc, 1, 0, false);
+    assert_hears(&rt, alloc, 2, 0, false);
+    assert_hears(&rt, alloc, 1, 0, true);
     assert_hears(&rt, alloc, 0, 1, true);
     assert_hears(&rt, alloc, 1, 1, true);
 }
