@@ -1,5 +1,5 @@
 /* Lets system calls of a program that it is loaded before (LD_PRELOAD) fail: by ENOBUFS the first that sets the option of a socket that
-   REFUSED_OPTION names, `nodelay` or `write_timeout`; or, where that is `connect`, by EMFILE the first two that connect. */
+   REFUSED_OPTION names, `nodelay` or `write_timeout`; or, where that is `connect`, by EMFILE the first eight that connect. */
 #define _GNU_SOURCE
 #include <dlfcn.h>
 #include <errno.h>
@@ -23,7 +23,7 @@ int connect(int file, const struct sockaddr *address, socklen_t length) {
     static int (*next)(int, const struct sockaddr *, socklen_t);
     const char *name = getenv("REFUSED_OPTION");
     if (!next) next = (int (*)(int, const struct sockaddr *, socklen_t))dlsym(RTLD_NEXT, "connect");
-    if (name && !strcmp(name, "connect") && atomic_fetch_add(&refused, 1) < 2) {
+    if (name && !strcmp(name, "connect") && atomic_fetch_add(&refused, 1) < 8) {
         errno = EMFILE;
         return -1;
     }

@@ -1,6 +1,6 @@
 """Runs the tests, and reports at the end what was run and how long each part took.
 
-    ./test                     the whole gate, a self-test of the wrong bodies and these, the program from the command
+    ./test                     the whole gate, the wrong bodies after their self-test, the program from the command
                                line, the cases, the programs at their limits, sites under random workloads, the server,
                                with stores too, linked sites, audits, and tests with each allocation refused
     ./test CRATE..             what a change of these crates can break: layout, proofs, tests and stored runs of these and

@@ -19,6 +19,7 @@ import time
 
 import cases
 from crates import folder
+from limit_tests import MOST_MEMBERS
 from program_tests import NO_COMPILER, Failed, check, compiled_refusal, expect, first_difference, run
 
 BUILT = f"{folder('queue_sites')}/out/queue_sites"
@@ -288,6 +289,8 @@ def wrong_words():
         check(BUILT, ["serve", "--sessions", places, *right], 2, errors=b"invalid value '%b' for '--sessions <N>'" % places.encode())
     check(BUILT, ["serve", *right, "sales"], 2, errors=b"queue_sites: bad queue list\n")
     check(BUILT, ["serve", "1", "24000", "", "", "a", "a"], 2, errors=b"queue_sites: bad queue list\n")
+    for word in ("a" * 81, "a\nb"):
+        check(BUILT, ["serve", f"--greeting={word}", *right], 2, errors=b"queue_sites: bad greeting\n")
     for word in ("", "a" * 81, "a\nb", " a", "a\t"):
         for at, what in ((2, b"user"), (3, b"secret")):
             check(BUILT, changed(at, word), 2, errors=b"queue_sites: bad %b\n" % what)
@@ -510,7 +513,7 @@ def clients_at_once(sites=8, asks=1_000):
         asked, reports = time.monotonic(), set()
         while len(reports) != 1:
             seconds = time.monotonic() - asked
-            need(seconds < SETTLED, f"{seconds:.1f} seconds after the last ask there are {len(reports)} different reports")
+            need(seconds < CAUGHT_UP, f"{seconds:.1f} seconds after the last ask there are {len(reports)} different reports")
             reports = {shown(server, site) for site in range(sites)}
         seconds = time.monotonic() - asked
         server.rests()
@@ -527,14 +530,14 @@ def add_own(server, site, number, members):
 
 
 def members_of_their_own(sites=8, members=100):
-    """Four clients of each of eight sites add members that no other client adds: each site has them all soon after, so that no frame was lost
-    where a site's journal was full."""
+    """Four clients of each of eight sites add members that no other client adds: each site has them all soon after, also where a site's
+    journal was full or frames were dropped."""
     with Server(sites) as server, concurrent.futures.ThreadPoolExecutor(SLOTS * sites) as threads:
         jobs = [threads.submit(add_own, server, it % sites, it, members) for it in range(SLOTS * sites)]
         for it in jobs:
             it.result()
         for site in range(sites):
-            until_shown(server, site, b"ListItems: %d\r\n" % (SLOTS * sites * members + 1))
+            until_shown(server, site, b"ListItems: %d\r\n" % (SLOTS * sites * members + 1), CAUGHT_UP)
         server.stop_caught_up()
     return f"{SLOTS * sites * members:,} members of {sites} sites, each of which shows all"
 
@@ -577,7 +580,7 @@ def full_sites(sites, members=9_500, removed=5_000):
         seconds = time.monotonic() - asked
         need(len({shown(server, site) for site in range(sites)}) == 1, "the sites don't show the same")
         falls = server.stop_caught_up()
-        need(falls or sum(added) < 2 * members, "a site knows more members than it may")
+        need(falls or sum(added) + 500 * (sites - 2) <= MOST_MEMBERS, "a site knows more members than it may")
     return f"{sum(added):,} members added at two of {sites} sites, which fell behind {falls} times: the same {seconds:.1f} seconds after room was made"
 
 
@@ -1064,8 +1067,9 @@ def deaf_standard_error(clients=300):
         find = lambda logged: re.search(rb"queue_sites: (\d+) log lines dropped\n", logged)
         dropped = find(server.read_log(find))
         need(dropped, f"of {clients * SLOTS * (TRIES + 1)} lines none is logged as dropped")
-        lines = server.stop().splitlines()
-        number = sum(b": login failed" in it or b": closed after" in it for it in lines) + int(dropped[1])
+        log = server.stop()
+        number = sum(b": login failed" in it or b": closed after" in it for it in log.splitlines())
+        number += sum(map(int, re.findall(rb"queue_sites: (\d+) log lines dropped\n", log)))
         all_events = clients * SLOTS * (TRIES + 1)
         need(number == all_events and int(dropped[1]) > 0, f"{number} lines are logged or dropped of {all_events}")
     return f"a standard error that nobody reads: {int(dropped[1]):,} lines dropped"
@@ -1074,8 +1078,8 @@ def deaf_standard_error(clients=300):
 def idle_clients():
     """A client that has logged in and is silent for the idle time loses its place then, and no earlier; one that asks in time doesn't, nor does one
     that sends some of a message in time. Where the idle time is 0 a silent client keeps its place."""
-    began = time.monotonic()
     with Server(1, options=["--idle", "3"]) as server, concurrent.futures.ThreadPoolExecutor(1) as threads:
+        began = time.monotonic()
         quiet, busy, slow = server.logged_in(), server.logged_in(), server.logged_in()
         started = time.monotonic()
         job = threads.submit(drip, slow, b"A", 0.4, 7)

@@ -71,9 +71,9 @@ fn run_site<
 /// knows when it connects. The steps of the site's journal are dropped when there are 1,000, and when they keep more than 64 MiB.
 ///
 /// It returns when the site has ended. `TakenNumber`, `OlderCopy`: another site has refused it so. `NotMine`: another site has sent a frame
-/// that this site refuses so. `Conflict`: so have most of those that it dials. `Asked`: it has taken `settings.connections` connections of
-/// clients, and answered them. The reason is logged in one line, and sessions that go on are cut off. What happens to clients and links is
-/// added to `settings.events`.
+/// that this site refuses so. `Conflict`: it has refused the last frames of more sites than half as many as it dials so. `Asked`: it has
+/// taken `settings.connections` connections of clients, and answered them. The reason is logged in one line, and sessions that go on are
+/// cut off. What happens to clients and links is added to `settings.events`.
 ///
 /// Errors, in order: 1 `NoAddress`, if the system doesn't say at which address links are accepted; 2 `NoThread`, if a thread can't start; 3
 /// `Memory`, which may stand in place of 2. No client is answered then, and no peer is dialed. (Sessions are Asterisk's Manager Interface;

@@ -36,8 +36,8 @@ fn await_peers<R: Wait + Clock>(rt: &R, site: &LinkedSite) {
     }
 }
 
-// Answers the clients of a site by this pass, as `answer` does, once `await_peers` has returned. Each change rings the site's
-// bell, and its reply leaves once its step is durable. Gives the pass back.
+// Answers the clients of a site by this pass, as `answer` does, once `await_peers` has returned, and none if the site ends by then. Each
+// change rings the site's bell, and its reply leaves once its step is durable. Gives the pass back.
 fn answer_by<
     D: StepStore,
     L: StoredLedger,
@@ -46,6 +46,9 @@ fn answer_by<
     ensures { result.ordinal ≡ pass.ordinal }
 {
     await_peers(rt, site);
+    if site.links.ending().reason(rt).is_some() {
+        site.clients().stop(rt);
+    }
     let mut ringing = RingingDesk::new(StoredPassDesk::new(desk, pass), site.bell());
     answer(rt, alloc, site, &mut ringing);
     ringing.into_inner().into_pass()
