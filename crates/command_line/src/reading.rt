@@ -67,8 +67,8 @@ enum Refusal {
 
 /// Reads the command line, and checks its words. Errors, in order: words that are no text; those of clap, which checks the ranges of
 /// numbers too; `--keep` without `--store`; the address of a server; the addresses of a site for clients, for links and of its peers, and
-/// more than 64 peers; more than 64 files of an audit; the list of queues; the file of the secret; the secret; user or greeting; of a site
-/// the file of the secret of links, and that secret.
+/// more than 64 peers; more than 64 files of an audit; the list of queues; the file of the secret; the secret; the user; the greeting; of a
+/// site the file of the secret of links, and that secret.
 ///
 /// Prints the first error to standard error, and returns `Done(WrongWords)`; out of memory, and a file that can't be read, are
 /// `Done(Failed)`. Prints help and version to standard output, and returns `Done(Done)`. `Err`: that printing failed. No contract says this

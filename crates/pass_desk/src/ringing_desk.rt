@@ -10,9 +10,9 @@ use std::sync::Wait;
 // The least bytes of a report that rings. 1,000 shorter ones, as many as the journal of a server has steps, keep less than 64 MiB.
 const LARGE_REPORT: usize = 65_536;
 
-/// A desk that rings a site's bell at each answer of its own desk that changes the site, so that the change is sent, and at each report of
-/// 64 KiB or more: the thread that hears the bell limits what the journal keeps. What it answers is what its own desk answers (this
-/// project's own).
+/// A desk that rings a site's bell at each answer of its own desk that changes the site or is lost, so that the change is sent, and at each
+/// report of 64 KiB or more: the thread that hears the bell limits what the journal keeps. What it answers is what its own desk answers
+/// (this project's own).
 #[derive(Drop)]
 pub struct RingingDesk<'a, D> {
     desk: D,

@@ -131,11 +131,11 @@ fn stored_sites_of<D: StepStore>(
 /// What nobody waits for is saved 50 ms after the save before. A store that has more than 10,000 rows or 64 MiB beside its base gets a new
 /// base. Once a site has ended, all its steps are in its store, unless a commit has failed.
 ///
-/// If a commit of a store fails, the sessions of its site end without a reply, a line in `events` says why, as
-/// `queue_sites: site 0: store failed: disk full`, and all sites end. The site's output then has the fault. All sites also end if a site
-/// refuses a frame since the store of a site is older than what other sites know of that site; a line says so, as
-/// `queue_sites: site 0: ends: rolled back: a frame of site 1: not this site's own`. So without a number of `sessions` the call returns only
-/// if a site has failed.
+/// If a commit of a store fails, the sessions of its site end without a reply, a line in `events` says why, as `queue_sites: site 0: store
+/// failed: disk full`, and all sites end. The site's output then has the fault. All sites also end if a site refuses a frame since the
+/// store of a site is older than what other sites know of that site, or since a number was used twice; a line says so, as `queue_sites:
+/// site 0: ends: rolled back: a frame of site 1: not this site's own` or `.. ends: a frame of site 1: conflict`. So without a number of
+/// `sessions` the call returns only if a site has failed.
 ///
 /// Once all sites listen the log has a line for each, as of `serve_sites`. Errors are those of `serve_sites`, in its order, and the stores
 /// are dropped.

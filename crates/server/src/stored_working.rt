@@ -118,8 +118,8 @@ fn log_end<R: Wait>(rt: &R, alloc: Global, site: &Site, peer: SiteId, fault: Tak
 }
 
 // Takes the frames of a peer by this pass, until the link has ended, the site's store has failed, or a frame shows that the store lacks
-// what the peer knows of the site: that is logged, and all sites of the server end. The journal is kept within its limits. The link is
-// given up at the end.
+// what the peer knows of the site, or that a number was used twice: that is logged, and all sites of the server end. The journal is kept
+// within its limits. The link is given up at the end.
 fn take_by<D: StepStore, L: StoredLedger, R: Wait>(
     rt: &R,
     alloc: Global,

@@ -14,8 +14,8 @@ pub enum EndReason {
     /// Another site says of this site's number what this site has not made: the number was used before, or its store is an older copy.
     #[error("rolled back: another site has frames under this site's number that this site has not made")]
     NotMine,
-    /// Most of the sites that this site dials have other values under numbers of changes that it knows: numbers were used twice, as where a
-    /// store was lost.
+    /// More sites than half as many as this site dials have other values under numbers of changes that it knows: numbers were used twice, as
+    /// where a store was lost.
     #[error("other sites have other values under numbers of changes that this site knows")]
     Conflict,
     /// A peer knows another store with this site's number.

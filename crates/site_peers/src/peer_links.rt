@@ -158,7 +158,7 @@ impl<G: Drop> PeerLinks<G> {
         false
     }
 
-    // Whether this site refused, as `Conflict`, the last frames of more sites than half of those that it dials, itself not counted.
+    // Whether this site refused, as `Conflict`, the last frames of more sites than half as many as it dials, itself not counted.
     pub(crate) fn is_outvoted<R: Wait>(&self, rt: &R) -> bool {
         let mut others: usize = 0;
         for peer in &self.peers {
@@ -200,7 +200,8 @@ pub(crate) fn wake<R: Net<Listener = TcpListener, Stream = TcpStream>>(rt: &R, o
 }
 
 /// Ends a site for this reason, if it doesn't end yet; the first reason is logged, in one line. Each call ends the bell, and wakes the
-/// threads that wait to dial and one that accepts links, which wakes the next. So all threads of its links end.
+/// threads that wait to dial and one that accepts links, which wakes the next. So all threads of its links end, unless a wake fails: then
+/// call it again.
 pub fn end_links<R: Net<Listener = TcpListener, Stream = TcpStream> + Wait, G: Ring<R> + Drop>(
     rt: &R,
     links: &PeerLinks<G>,

@@ -20,9 +20,9 @@ fn read_log<R: Files + AllocGlobal>(rt: &R, path: &str) -> io::Result<Vec<u8>> {
     }
 }
 
-/// Reads the file of a store at a path, and its log if there is one (its name and `-wal`). Where the path is a link, both lie where it
-/// leads, as for a site. It opens both only for reading, takes no lock, and changes nothing. A store that a site has open may change between the two reads: stop its site first, or copy a snapshot of
-/// both files.
+/// Reads the file of a store at a path, and its log if there is one (its name and `-wal`). If the path is a link, both lie where it leads,
+/// as for a site. It opens both only for reading, takes no lock, and changes nothing. A store that a site has open may change between the
+/// two reads: stop its site first, or copy a snapshot of both files.
 ///
 /// Errors, in order: that of the file; that of its log, unless the log is missing. An error of the kind `OutOfMemory` may stand in place
 /// of each.
