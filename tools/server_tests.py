@@ -1064,15 +1064,13 @@ def deaf_standard_error(clients=300):
         it.leave()
         until_shown(server, 1, b"Location: SIP/1\r\n")
         need(time.monotonic() - started < 8, "a server whose log nobody reads serves slowly")
-        find = lambda logged: re.search(rb"queue_sites: (\d+) log lines dropped\n", logged)
-        dropped = find(server.read_log(find))
-        need(dropped, f"of {clients * SLOTS * (TRIES + 1)} lines none is logged as dropped")
-        log = server.stop()
-        number = sum(b": login failed" in it or b": closed after" in it for it in log.splitlines())
-        number += sum(map(int, re.findall(rb"queue_sites: (\d+) log lines dropped\n", log)))
         all_events = clients * SLOTS * (TRIES + 1)
-        need(number == all_events and int(dropped[1]) > 0, f"{number} lines are logged or dropped of {all_events}")
-    return f"a standard error that nobody reads: {int(dropped[1]):,} lines dropped"
+        dropped = lambda logged: sum(map(int, re.findall(rb"queue_sites: (\d+) log lines dropped\n", logged)))
+        counted = lambda logged: dropped(logged) + sum(b": login failed" in it or b": closed after" in it for it in logged.splitlines())
+        logged = server.read_log(lambda logged: counted(logged) >= all_events)
+        need(dropped(logged) > 0, f"of {all_events} lines none is logged as dropped")
+        need(counted(logged) == all_events, f"{counted(logged)} lines are logged or dropped of {all_events}")
+    return f"a standard error that nobody reads: {dropped(logged):,} lines dropped"
 
 
 def idle_clients():
