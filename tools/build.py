@@ -99,7 +99,7 @@ class Run:
         with contextlib.suppress(ProcessLookupError):
             os.killpg(self.process.pid, signal.SIGTERM)
 
-    def tell(self, log):
+    def write_to(self, log):
         """Writes what it printed, and what it took."""
         seconds = time.monotonic() - self.started
         self.said.seek(0)
@@ -153,7 +153,7 @@ class Build:
                     self.running.remove(run)
                     self.progress.done += 1
                     self.proved.add(run.crate)
-                    run.tell(self.log)
+                    run.write_to(self.log)
                     return run.status == 0
             time.sleep(0.1)
 

@@ -6,9 +6,9 @@ use Rattle.status_report.specs.declared.asks.Ask.{Ask}
 use Rattle.ami_session.specs.Checks.{SessionState, Reaction, Replies, Asks, Ends, reaction, after}
 use Rattle.ami_session.specs.FieldValues.{Fields}
 use Rattle.ami_session.specs.Checks.{answer_reply}
-use Rattle.ami_session.specs.Text.{greeting, text_upon, replies, asks_upon, asks, after_all, is_end, is_over, session_text, AreOf, NothingFollows, IsFrontOfLonger, IsFrontOfMore, SameText}
+use Rattle.ami_session.specs.Text.{greeting, reaction_text, replies, reaction_asks, asks, after_all, is_end, is_over, session_text, AreOf, NothingFollows, IsFrontOfLonger, IsFrontOfMore, SameText}
 
-written_same : (r : Reaction) (f g : List Answer → List ℕ) → ((answers : List Answer) → f answers ≡ g answers) → (answers : List Answer) → text_upon r f answers ≡ text_upon r g answers
+written_same : (r : Reaction) (f g : List Answer → List ℕ) → ((answers : List Answer) → f answers ≡ g answers) → (answers : List Answer) → reaction_text r f answers ≡ reaction_text r g answers
 written_same (Replies bytes) f g same answers = ap (λ t. bytes ++ t) (same answers)
 written_same (Ends bytes) f g same answers = refl
 written_same (Asks ask waiting) f g same [] = refl
@@ -16,13 +16,13 @@ written_same (Asks ask waiting) f g same (answer ∷ answers) = ap (λ t. answer
 
 replies_end : (before : List Fields) (s : SessionState) (last : Fields) (bytes : List ℕ) → reaction (after_all s before) last ≡ Ends bytes → (others more : List Fields) (answers : List Answer)
     → replies s (before ++ last ∷ others) answers ≡ replies s (before ++ last ∷ more) answers
-replies_end [] s last bytes e others more answers = ap (λ r. text_upon r (replies (after s last) others) answers) e ∙ sym (ap (λ r. text_upon r (replies (after s last) more) answers) e)
+replies_end [] s last bytes e others more answers = ap (λ r. reaction_text r (replies (after s last) others) answers) e ∙ sym (ap (λ r. reaction_text r (replies (after s last) more) answers) e)
 replies_end (m ∷ before) s last bytes e others more answers =
     written_same (reaction s m) (replies (after s m) (before ++ last ∷ others)) (replies (after s m) (before ++ last ∷ more)) (replies_end before (after s m) last bytes e others more) answers
 
 asks_end : (before : List Fields) (s : SessionState) (last : Fields) (bytes : List ℕ) → reaction (after_all s before) last ≡ Ends bytes → (others more : List Fields) → asks s (before ++ last ∷ others) ≡ asks s (before ++ last ∷ more)
-asks_end [] s last bytes e others more = ap (λ r. asks_upon r (asks (after s last) others)) e ∙ sym (ap (λ r. asks_upon r (asks (after s last) more)) e)
-asks_end (m ∷ before) s last bytes e others more = ap (asks_upon (reaction s m)) (asks_end before (after s m) last bytes e others more)
+asks_end [] s last bytes e others more = ap (λ r. reaction_asks r (asks (after s last) others)) e ∙ sym (ap (λ r. reaction_asks r (asks (after s last) more)) e)
+asks_end (m ∷ before) s last bytes e others more = ap (reaction_asks (reaction s m)) (asks_end before (after s m) last bytes e others more)
 
 pub nothing_follows : (s : SessionState) (before : List Fields) (last : Fields) → NothingFollows s before last
 nothing_follows s before last = record {
@@ -35,12 +35,12 @@ front [] s answers more = ([], refl)
 front (m ∷ ms) s answers more = by (reaction s m) answers (front ms (after s m))
   where
     by : (r : Reaction) (answers : List Answer) → ((a b : List Answer) → (rest : List ℕ) × (replies (after s m) ms (a ++ b) ≡ replies (after s m) ms a ++ rest))
-        → (rest : List ℕ) × (text_upon r (replies (after s m) ms) (answers ++ more) ≡ text_upon r (replies (after s m) ms) answers ++ rest)
+        → (rest : List ℕ) × (reaction_text r (replies (after s m) ms) (answers ++ more) ≡ reaction_text r (replies (after s m) ms) answers ++ rest)
     by (Replies bytes) answers go =
         let one = go answers more in
         (one.0, ap (λ t. bytes ++ t) one.1 ∙ sym (append_assoc bytes (replies (after s m) ms answers) one.0))
     by (Ends bytes) answers go = ([], sym (append-nil bytes))
-    by (Asks ask waiting) [] go = (text_upon (Asks ask waiting) (replies (after s m) ms) more, refl)
+    by (Asks ask waiting) [] go = (reaction_text (Asks ask waiting) (replies (after s m) ms) more, refl)
     by (Asks ask waiting) (answer ∷ answers) go =
         let one = go answers more in
         (one.0, ap (λ t. answer_reply waiting answer ++ t) one.1 ∙ sym (append_assoc (answer_reply waiting answer) (replies (after s m) ms answers) one.0))
@@ -56,7 +56,7 @@ longer [] s more answers = (replies s more answers, refl)
 longer (m ∷ ms) s more answers = by (reaction s m) answers (longer ms (after s m) more)
   where
     by : (r : Reaction) (answers : List Answer) → ((a : List Answer) → (rest : List ℕ) × (replies (after s m) (ms ++ more) a ≡ replies (after s m) ms a ++ rest))
-        → (rest : List ℕ) × (text_upon r (replies (after s m) (ms ++ more)) answers ≡ text_upon r (replies (after s m) ms) answers ++ rest)
+        → (rest : List ℕ) × (reaction_text r (replies (after s m) (ms ++ more)) answers ≡ reaction_text r (replies (after s m) ms) answers ++ rest)
     by (Replies bytes) answers go =
         let one = go answers in
         (one.0, ap (λ t. bytes ++ t) one.1 ∙ sym (append_assoc bytes (replies (after s m) ms answers) one.0))
@@ -74,7 +74,7 @@ front_of_longer s ms more answers = let one = longer ms s more answers in record
 
 -- nothing counts behind messages one of which ends the session
 over_by : (r : Reaction) (rest : Bool) (f g : List Answer → List ℕ) → (rest ≡ true → (answers : List Answer) → f answers ≡ g answers) → (is_end r || rest) ≡ true
-    → (answers : List Answer) → text_upon r f answers ≡ text_upon r g answers
+    → (answers : List Answer) → reaction_text r f answers ≡ reaction_text r g answers
 over_by (Replies bytes) rest f g so over answers = ap (λ t. bytes ++ t) (so over answers)
 over_by (Ends bytes) rest f g so over answers = refl
 over_by (Asks ask waiting) rest f g so over [] = refl
@@ -85,7 +85,7 @@ replies_over [] s more over answers = absurd (true≢false (sym over))
 replies_over (m ∷ ms) s more over answers =
     over_by (reaction s m) (is_over (after s m) ms) (replies (after s m) (ms ++ more)) (replies (after s m) ms) (replies_over ms (after s m) more) over answers
 
-asks_by : (r : Reaction) (rest : Bool) (f g : List Ask) → (rest ≡ true → f ≡ g) → (is_end r || rest) ≡ true → asks_upon r f ≡ asks_upon r g
+asks_by : (r : Reaction) (rest : Bool) (f g : List Ask) → (rest ≡ true → f ≡ g) → (is_end r || rest) ≡ true → reaction_asks r f ≡ reaction_asks r g
 asks_by (Replies bytes) rest f g so over = so over
 asks_by (Ends bytes) rest f g so over = refl
 asks_by (Asks ask waiting) rest f g so over = ap (λ t. ask ∷ t) (so over)

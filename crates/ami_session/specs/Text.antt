@@ -18,31 +18,31 @@ greeting s = s.greeting ++ codes "\r\n"
 
 -- what a session writes for a reaction, and then by `rest`; an ask takes the first of the answers, and without one nothing more is
 -- written
-abbrev pub text_upon : Reaction → (List Answer → List ℕ) → List Answer → List ℕ
-text_upon (Replies bytes) rest answers = bytes ++ rest answers
-text_upon (Ends bytes) rest answers = bytes
-text_upon (Asks ask waiting) rest [] = []
-text_upon (Asks ask waiting) rest (answer ∷ answers) = answer_reply waiting answer ++ rest answers
+abbrev pub reaction_text : Reaction → (List Answer → List ℕ) → List Answer → List ℕ
+reaction_text (Replies bytes) rest answers = bytes ++ rest answers
+reaction_text (Ends bytes) rest answers = bytes
+reaction_text (Asks ask waiting) rest [] = []
+reaction_text (Asks ask waiting) rest (answer ∷ answers) = answer_reply waiting answer ++ rest answers
 
 -- the replies of session `s` to messages, with these answers of the site, up to the first message that ends it, or to all
 abbrev pub replies : SessionState → List Fields → List Answer → List ℕ
 replies s [] answers = []
-replies s (m ∷ ms) answers = text_upon (reaction s m) (replies (after s m) ms) answers
+replies s (m ∷ ms) answers = reaction_text (reaction s m) (replies (after s m) ms) answers
 
 -- the text of session `s`: its greeting, and its replies to the messages `ms` with the answers `answers`
 abbrev pub session_text : SessionState → List Fields → List Answer → List ℕ
 session_text s ms answers = greeting s ++ replies s ms answers
 
 -- the asks of a reaction, and then `more`; nothing more after one that ends the session
-abbrev pub asks_upon : Reaction → List Ask → List Ask
-asks_upon (Replies bytes) more = more
-asks_upon (Ends bytes) more = []
-asks_upon (Asks ask waiting) more = ask ∷ more
+abbrev pub reaction_asks : Reaction → List Ask → List Ask
+reaction_asks (Replies bytes) more = more
+reaction_asks (Ends bytes) more = []
+reaction_asks (Asks ask waiting) more = ask ∷ more
 
 -- the asks of session `s` for messages, in order
 abbrev pub asks : SessionState → List Fields → List Ask
 asks s [] = []
-asks s (m ∷ ms) = asks_upon (reaction s m) (asks (after s m) ms)
+asks s (m ∷ ms) = reaction_asks (reaction s m) (asks (after s m) ms)
 
 -- session `s` after messages, one after another
 abbrev pub after_all : SessionState → List Fields → SessionState

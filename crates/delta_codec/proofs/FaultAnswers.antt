@@ -11,7 +11,7 @@ use Rattle.delta_codec.specs.Reading.{◌>>=◌, Fails, GivesWithMemory, Kept, c
 use Rattle.delta_codec.proofs.CellLaws.{heading_reads}
 use Rattle.delta_codec.proofs.ContentLaws.{magic_reads, version_reads}
 use Rattle.delta_codec.proofs.FrameAnswers.{fails_is, seen}
-use Rattle.delta_codec.proofs.FrameFaults.{content_tells, counted, counted_fails, frame_tells}
+use Rattle.delta_codec.proofs.FrameFaults.{content_reports, counted, counted_fails, frame_reports}
 use Rattle.delta_codec.proofs.FrameLaws.{content_found}
 use Rattle.delta_codec.proofs.InnerFaults.{never_memory, never_truncated}
 use Rattle.delta_codec.proofs.PartFaults.{bind_err, fault_is, not_both, outcome}
@@ -75,25 +75,25 @@ fault_had : (bytes : List ℕ) (fault : DecodeFault) → IsBytes bytes → Fails
 fault_had bytes fault fits h =
     elim (fails_is fault (kept_in bytes) h) [
       | inl memory ↦ inl memory
-      | inr reads ↦ inr (frame_tells.only bytes fault fits reads)
+      | inr reads ↦ inr (frame_reports.only bytes fault fits reads)
     ]
 
-fault_told : (bytes : List ℕ) (result : Answer) (fault : DecodeFault) → IsBytes bytes → GivesWithMemory seen result (kept_in bytes) → HasFault bytes fault → UnlessMemory result (result ≡ Err fault)
-fault_told bytes (Ok x) fault fits h has = absurd (not_both (kept_in bytes) (seen x) fault h (frame_tells.always bytes fault fits has))
-fault_told bytes (Err other) fault fits h has =
+fault_reported : (bytes : List ℕ) (result : Answer) (fault : DecodeFault) → IsBytes bytes → GivesWithMemory seen result (kept_in bytes) → HasFault bytes fault → UnlessMemory result (result ≡ Err fault)
+fault_reported bytes (Ok x) fault fits h has = absurd (not_both (kept_in bytes) (seen x) fault h (frame_reports.always bytes fault fits has))
+fault_reported bytes (Err other) fault fits h has =
     elim (fails_is other (kept_in bytes) h) [
       | inl memory ↦ inl (ap fault_of memory)
-      | inr reads ↦ inr (ap fault_of (fault_is {A = Kept × ℕ} other fault (sym reads ∙ frame_tells.always bytes fault fits has)))
+      | inr reads ↦ inr (ap fault_of (fault_is {A = Kept × ℕ} other fault (sym reads ∙ frame_reports.always bytes fault fits has)))
     ]
 
 is_truncated : (bytes : List ℕ) (result : Answer) → IsBytes bytes → IsEarly bytes result → HasFault bytes Truncated → result ≡ Err Truncated
 unfolding kept_in opening_in
 is_truncated bytes result fits early has =
-    elim (bind_err (content_in bytes) counted Truncated (frame_tells.always bytes Truncated fits has)) [
+    elim (bind_err (content_in bytes) counted Truncated (frame_reports.always bytes Truncated fits has)) [
       | inl short ↦ early Truncated (rw short refl)
       | inr there ↦
           let front = content_found bytes there.0 fits there.1 in
-          absurd (never_truncated Truncated there.0 (content_tells.only there.0 Truncated front.fits (counted_fails there.0 Truncated there.2)) refl)
+          absurd (never_truncated Truncated there.0 (content_reports.only there.0 Truncated front.fits (counted_fails there.0 Truncated there.2)) refl)
     ]
 
 begins : (bytes : List ℕ) (result : Answer) → IsBytes bytes → IsEarly bytes result → result ≡ Err Memory → HasOpening bytes
@@ -102,19 +102,19 @@ begins bytes result fits early memory =
       | inl found ↦ opening_found bytes found.0.0 found.0.1 fits found.1
       | inr stopped ↦
           let same = fault_is {A = Frame × ℕ} stopped.0 Memory (sym (early stopped.0 stopped.1) ∙ memory) in
-          absurd (never_memory stopped.0 bytes (frame_tells.only bytes stopped.0 fits (opening_fails bytes stopped.0 stopped.1)) same)
+          absurd (never_memory stopped.0 bytes (frame_reports.only bytes stopped.0 fits (opening_fails bytes stopped.0 stopped.1)) same)
     ]
 
 pub front_fault : (bytes : List ℕ) (result : Answer) → IsBytes bytes → GivesWithMemory seen result (kept_in bytes) → IsEarly bytes result → IsFrontFault bytes result
 front_fault bytes (Ok x) fits h early = record {
   had = tt;
-  told = λ fault has. fault_told bytes (Ok x) fault fits h has;
+  reported = λ fault has. fault_reported bytes (Ok x) fault fits h has;
   truncated = λ has. is_truncated bytes (Ok x) fits early has;
   memory = λ e. begins bytes (Ok x) fits early e;
 }
 front_fault bytes (Err fault) fits h early = record {
   had = fault_had bytes fault fits h;
-  told = λ other has. fault_told bytes (Err fault) other fits h has;
+  reported = λ other has. fault_reported bytes (Err fault) other fits h has;
   truncated = λ has. is_truncated bytes (Err fault) fits early has;
   memory = λ e. begins bytes (Err fault) fits early e;
 }
@@ -131,7 +131,7 @@ pub next_taken : (old : List ℕ) (frame : Frame) (len : ℕ) → IsFrontFault o
 next_taken old frame len h = record {
   none = (λ e. absurd cc, λ has. absurd (let never = h.truncated has in cc));
   had = tt;
-  told = λ fault has not. elim (h.told fault has) [
+  reported = λ fault has not. elim (h.reported fault has) [
     | inl memory ↦ absurd cc
     | inr same ↦ absurd cc
   ];
@@ -148,7 +148,7 @@ next_missing old h = record {
     λ _. refl,
   );
   had = tt;
-  told = λ fault has not. elim (h.told fault has) [
+  reported = λ fault has not. elim (h.reported fault has) [
     | inl memory ↦ absurd cc
     | inr same ↦ absurd (not (sym (fault_is {A = Frame × ℕ} Truncated fault same)))
   ];
@@ -162,7 +162,7 @@ next_fails old fault not h = record {
     | inl memory ↦ inl memory
     | inr has ↦ inr (has, not)
   ];
-  told = λ other has _. elim (h.told other has) [
+  reported = λ other has _. elim (h.reported other has) [
     | inl memory ↦ inl (ap next_fault_of (fault_is {A = Frame × ℕ} fault Memory memory))
     | inr same ↦ inr (ap next_fault_of (fault_is {A = Frame × ℕ} fault other same))
   ];

@@ -13,7 +13,7 @@ use Rattle.delta_codec.specs.Faults.{HasFault, number4}
 use Rattle.delta_codec.specs.Frames.{Spells}
 use Rattle.delta_codec.specs.Reading.{Kept, kept_in}
 use Rattle.delta_codec.proofs.ContentLaws.{kept_of}
-use Rattle.delta_codec.proofs.FrameFaults.{frame_tells}
+use Rattle.delta_codec.proofs.FrameFaults.{frame_reports}
 use Rattle.delta_codec.proofs.FrameLaws.{both_found, frame_found, frame_spelled, one_frame}
 use Rattle.delta_codec.proofs.PartFaults.{fault_is, not_both, outcome}
 use Rattle.delta_codec.proofs.PartLaws.{IsBytes}
@@ -44,18 +44,18 @@ either bytes all =
       | inl found ↦
           let front = frame_spelled bytes (frame_of found.0.0) found.0.1 fits found.1 in
           inl (record { frame = frame_of found.0.0; len = found.0.1; there = front.there; spelled = front.spells })
-      | inr stopped ↦ inr (record { fault = stopped.0; has = frame_tells.only bytes stopped.0 fits stopped.1 })
+      | inr stopped ↦ inr (record { fault = stopped.0; has = frame_reports.only bytes stopped.0 fits stopped.1 })
     ]
 
 pub not_both_of : (bytes : List ℕ) → AreBytes bytes → BeginsWithFrame bytes → IsAtFault bytes → ⊥
 not_both_of bytes all begins at_fault =
     let found : Kept × ℕ = (kept_of begins.spelled.parts, begins.len) in
-    not_both (kept_in bytes) found at_fault.fault (frame_found bytes begins.frame begins.len begins.there begins.spelled) (frame_tells.always bytes at_fault.fault (all_bytes bytes all) at_fault.has)
+    not_both (kept_in bytes) found at_fault.fault (frame_found bytes begins.frame begins.len begins.there begins.spelled) (frame_reports.always bytes at_fault.fault (all_bytes bytes all) at_fault.has)
 
 pub one_fault : (bytes : List ℕ) (f g : DecodeFault) → AreBytes bytes → HasFault bytes f → HasFault bytes g → f ≡ g
 one_fault bytes f g all has also =
     let fits = all_bytes bytes all in
-    fault_is {A = Kept × ℕ} f g (sym (frame_tells.always bytes f fits has) ∙ frame_tells.always bytes g fits also)
+    fault_is {A = Kept × ℕ} f g (sym (frame_reports.always bytes f fits has) ∙ frame_reports.always bytes g fits also)
 
 -- ---- what follows bytes
 

@@ -14,7 +14,7 @@ use Rattle.delta_codec.specs.Faults.{FieldFails, FieldsFail, IsBit, IsFlagged, L
 use Rattle.delta_codec.specs.Parts.{byte, field_bytes, label_bytes, pause_bytes, penalty_bytes, stamp_bytes, text_bytes}
 use Rattle.delta_codec.specs.Reading.{Read, bit_at, both, byte_at, count_at, entry_at, field_at, is_count, label_at, no_reason_at, number_at, pause_at, penalty_at, reason_at, ring_at, set_fields_at, site_at, stamp_at, tested, text_at, text_of}
 use Rattle.delta_codec.proofs.FieldLaws.{IsTextOf, bit_reads, field_reads, label_reads, last_fields_at, later_fields_at, pause_reads, penalty_reads, stamp_reads, text_reads}
-use Rattle.delta_codec.proofs.PartFaults.{HasOneFault, Tells, fault_is, guard_err, is_over, is_under, last_err, one_both, one_byte, one_made, one_number, one_tested, over, tells_both, tells_lacks, tells_made, tells_same, test_err, under}
+use Rattle.delta_codec.proofs.PartFaults.{HasOneFault, Reports, fault_is, guard_err, is_over, is_under, last_err, one_both, one_byte, one_made, one_number, one_tested, over, reports_both, reports_lacks, reports_made, reports_same, test_err, under}
 use Rattle.delta_codec.proofs.PartLaws.{Reads, reads_good}
 
 -- ---- numbers
@@ -39,14 +39,14 @@ one_stamp : HasOneFault BadRange stamp_at
 unfolding stamp_at
 one_stamp = one_made (λ p. record { time = p.0; site = p.1 }) (λ bytes. both (count_at bytes) (λ _. site_at)) BadRange (one_both count_at (λ _. site_at) BadRange one_count (λ _. one_site))
 
-pub stamp_tells : Tells stamp_at (Lacks IsStamp stamp_bytes BadRange)
-stamp_tells = tells_lacks stamp_at IsStamp stamp_bytes BadRange stamp_reads one_stamp
+pub stamp_reports : Reports stamp_at (Lacks IsStamp stamp_bytes BadRange)
+stamp_reports = reports_lacks stamp_at IsStamp stamp_bytes BadRange stamp_reads one_stamp
 
-penalty_tells : Tells penalty_at PenaltyFails
-penalty_tells = tells_lacks penalty_at IsPenalty penalty_bytes BadRange penalty_reads one_penalty
+penalty_reports : Reports penalty_at PenaltyFails
+penalty_reports = reports_lacks penalty_at IsPenalty penalty_bytes BadRange penalty_reads one_penalty
 
-bit_tells : Tells bit_at (Lacks IsBit byte BadRange)
-bit_tells = tells_lacks bit_at IsBit byte BadRange bit_reads one_bit
+bit_reports : Reports bit_at (Lacks IsBit byte BadRange)
+bit_reports = reports_lacks bit_at IsBit byte BadRange bit_reads one_bit
 
 -- ---- texts
 
@@ -112,8 +112,8 @@ text_always least (len ∷ rest) fault h =
       ]
     ]
 
-pub text_tells : (least : ℕ) → Tells (text_at least) (TextFails least)
-text_tells least = record { only = λ bytes fault fits e. text_only least bytes fault e; always = λ bytes fault fits h. text_always least bytes fault h }
+pub text_reports : (least : ℕ) → Reports (text_at least) (TextFails least)
+text_reports least = record { only = λ bytes fault fits e. text_only least bytes fault e; always = λ bytes fault fits h. text_always least bytes fault h }
 
 -- the length of no reason
 abbrev no_length_at : List ℕ → Read ℕ
@@ -142,56 +142,56 @@ no_length_always (len ∷ rest) fault h =
       | inr some ↦ rw (is_under len TEXT_BYTES some.1) (rw (is_some_of len some.0, some.2) refl)
     ]
 
-no_reason_tells : Tells no_reason_at NoReasonFails
+no_reason_reports : Reports no_reason_at NoReasonFails
 unfolding no_reason_at
-no_reason_tells = tells_made (λ _. []) no_length_at NoReasonFails (record { only = λ bytes fault fits e. no_length_only bytes fault e; always = λ bytes fault fits h. no_length_always bytes fault h })
+no_reason_reports = reports_made (λ _. []) no_length_at NoReasonFails (record { only = λ bytes fault fits e. no_length_only bytes fault e; always = λ bytes fault fits h. no_length_always bytes fault h })
 
 -- ---- fields
 
-reason_tells : (paused : ℕ) → IsBit paused → Tells (reason_at paused) (λ fault rest. ReasonFails fault paused rest)
+reason_reports : (paused : ℕ) → IsBit paused → Reports (reason_at paused) (λ fault rest. ReasonFails fault paused rest)
 unfolding reason_at
-reason_tells zero bit = tells_same no_reason_at NoReasonFails (λ fault rest. ReasonFails fault 0 rest) no_reason_tells (λ fault rest h. inl (refl, h)) (λ fault rest h. elim h [
+reason_reports zero bit = reports_same no_reason_at NoReasonFails (λ fault rest. ReasonFails fault 0 rest) no_reason_reports (λ fault rest h. inl (refl, h)) (λ fault rest h. elim h [
   | inl none ↦ none.1
   | inr some ↦ absurd (let never = some.0 in omega arith)
 ])
-reason_tells (suc zero) bit = tells_same (text_at 0) (TextFails 0) (λ fault rest. ReasonFails fault 1 rest) (text_tells 0) (λ fault rest h. inr (refl, h)) (λ fault rest h. elim h [
+reason_reports (suc zero) bit = reports_same (text_at 0) (TextFails 0) (λ fault rest. ReasonFails fault 1 rest) (text_reports 0) (λ fault rest h. inr (refl, h)) (λ fault rest h. elim h [
   | inl none ↦ absurd (let never = none.0 in omega arith)
   | inr some ↦ some.1
 ])
-reason_tells (suc (suc n)) bit = absurd (omega (arith, bit))
+reason_reports (suc (suc n)) bit = absurd (omega (arith, bit))
 
-pause_tells : Tells pause_at PauseFails
+pause_reports : Reports pause_at PauseFails
 unfolding pause_at
-pause_tells = tells_made (λ p. record { paused = p.0 == 1; reason = p.1 }) (λ bytes. both (bit_at bytes) reason_at) PauseFails (tells_both bit_at reason_at IsBit byte (Lacks IsBit byte BadRange) ReasonFails bit_reads bit_tells reason_tells)
+pause_reports = reports_made (λ p. record { paused = p.0 == 1; reason = p.1 }) (λ bytes. both (bit_at bytes) reason_at) PauseFails (reports_both bit_at reason_at IsBit byte (Lacks IsBit byte BadRange) ReasonFails bit_reads bit_reports reason_reports)
 
 name_reads : Reads (text_at 0) IsText text_bytes
 name_reads = reads_good (text_at 0) (IsTextOf 0) IsText text_bytes (text_reads 0) (λ text g. g.0) (λ text g. (g, omega arith))
 
-label_tells : Tells label_at LabelFails
+label_reports : Reports label_at LabelFails
 unfolding label_at
-label_tells = tells_made (λ p. record { name = p.0; state = p.1 }) (λ bytes. both (text_at 0 bytes) (λ _. text_at 0)) LabelFails (tells_both (text_at 0) (λ _. text_at 0) IsText text_bytes (TextFails 0) (λ fault _ rest. TextFails 0 fault rest) name_reads (text_tells 0) (λ _ _. text_tells 0))
+label_reports = reports_made (λ p. record { name = p.0; state = p.1 }) (λ bytes. both (text_at 0 bytes) (λ _. text_at 0)) LabelFails (reports_both (text_at 0) (λ _. text_at 0) IsText text_bytes (TextFails 0) (λ fault _ rest. TextFails 0 fault rest) name_reads (text_reports 0) (λ _ _. text_reports 0))
 
-ring_tells : Tells ring_at RingFails
+ring_reports : Reports ring_at RingFails
 unfolding ring_at
-ring_tells = tells_made (λ n. n == 1) bit_at RingFails bit_tells
+ring_reports = reports_made (λ n. n == 1) bit_at RingFails bit_reports
 
-entry_tells : {T : Type 0} (at : List ℕ → Read T) (Fails : DecodeFault → List ℕ → Type 0) → Tells at Fails → Tells (entry_at at) (λ fault bytes. FieldFails Fails fault true bytes)
+entry_reports : {T : Type 0} (at : List ℕ → Read T) (Fails : DecodeFault → List ℕ → Type 0) → Reports at Fails → Reports (entry_at at) (λ fault bytes. FieldFails Fails fault true bytes)
 unfolding entry_at
-entry_tells at Fails t = tells_made (λ p. record { stamp = p.0; value = p.1 }) (λ bytes. both (stamp_at bytes) (λ _. at)) (λ fault bytes. FieldFails Fails fault true bytes) (tells_both stamp_at (λ _. at) IsStamp stamp_bytes (Lacks IsStamp stamp_bytes BadRange) (λ fault _ rest. Fails fault rest) stamp_reads stamp_tells (λ _ _. t))
+entry_reports at Fails t = reports_made (λ p. record { stamp = p.0; value = p.1 }) (λ bytes. both (stamp_at bytes) (λ _. at)) (λ fault bytes. FieldFails Fails fault true bytes) (reports_both stamp_at (λ _. at) IsStamp stamp_bytes (Lacks IsStamp stamp_bytes BadRange) (λ fault _ rest. Fails fault rest) stamp_reads stamp_reports (λ _ _. t))
 
-field_tells : {T : Type 0} (at : List ℕ → Read T) (Fails : DecodeFault → List ℕ → Type 0) → Tells at Fails → (flag : Bool) → Tells (field_at flag at) (λ fault bytes. FieldFails Fails fault flag bytes)
+field_reports : {T : Type 0} (at : List ℕ → Read T) (Fails : DecodeFault → List ℕ → Type 0) → Reports at Fails → (flag : Bool) → Reports (field_at flag at) (λ fault bytes. FieldFails Fails fault flag bytes)
 unfolding field_at
-field_tells at Fails t true = tells_made Some (entry_at at) (λ fault bytes. FieldFails Fails fault true bytes) (entry_tells at Fails t)
-field_tells at Fails t false = record { only = λ bytes fault fits e. absurd cc; always = λ bytes fault fits h. absurd h }
+field_reports at Fails t true = reports_made Some (entry_at at) (λ fault bytes. FieldFails Fails fault true bytes) (entry_reports at Fails t)
+field_reports at Fails t false = record { only = λ bytes fault fits e. absurd cc; always = λ bytes fault fits h. absurd h }
 
-pub set_fields_tell : (flags : ℕ) → Tells (set_fields_at flags) (λ fault bytes. FieldsFail fault flags bytes)
+pub set_fields_report : (flags : ℕ) → Reports (set_fields_at flags) (λ fault bytes. FieldsFail fault flags bytes)
 unfolding set_fields_at
-set_fields_tell flags =
+set_fields_report flags =
     let p = penalty_flag flags in
     let q = pause_flag flags in
     let l = label_flag flags in
     let r = ring_flag flags in
-    let last = tells_both (field_at l label_at) (λ _. field_at r ring_at) (IsFlagged IsLabel l) (field_bytes label_bytes) (λ fault bytes. FieldFails LabelFails fault l bytes) (λ fault _ rest. FieldFails RingFails fault r rest) (field_reads label_at IsLabel label_bytes label_reads l) (field_tells label_at LabelFails label_tells l) (λ _ _. field_tells ring_at RingFails ring_tells r) in
-    let later = tells_both (field_at q pause_at) (λ _. last_fields_at flags) (IsFlagged IsPause q) (field_bytes pause_bytes) (λ fault bytes. FieldFails PauseFails fault q bytes) _ (field_reads pause_at IsPause pause_bytes pause_reads q) (field_tells pause_at PauseFails pause_tells q) (λ _ _. last) in
-    let all = tells_both (field_at p penalty_at) (λ _. later_fields_at flags) (IsFlagged IsPenalty p) (field_bytes penalty_bytes) (λ fault bytes. FieldFails PenaltyFails fault p bytes) _ (field_reads penalty_at IsPenalty penalty_bytes penalty_reads p) (field_tells penalty_at PenaltyFails penalty_tells p) (λ _ _. later) in
-    tells_made (λ p. record { penalty = p.0; pause = p.1.0; label = p.1.1.0; ring = p.1.1.1 }) (λ bytes. both (field_at p penalty_at bytes) (λ _. later_fields_at flags)) (λ fault bytes. FieldsFail fault flags bytes) all
+    let last = reports_both (field_at l label_at) (λ _. field_at r ring_at) (IsFlagged IsLabel l) (field_bytes label_bytes) (λ fault bytes. FieldFails LabelFails fault l bytes) (λ fault _ rest. FieldFails RingFails fault r rest) (field_reads label_at IsLabel label_bytes label_reads l) (field_reports label_at LabelFails label_reports l) (λ _ _. field_reports ring_at RingFails ring_reports r) in
+    let later = reports_both (field_at q pause_at) (λ _. last_fields_at flags) (IsFlagged IsPause q) (field_bytes pause_bytes) (λ fault bytes. FieldFails PauseFails fault q bytes) _ (field_reads pause_at IsPause pause_bytes pause_reads q) (field_reports pause_at PauseFails pause_reports q) (λ _ _. last) in
+    let all = reports_both (field_at p penalty_at) (λ _. later_fields_at flags) (IsFlagged IsPenalty p) (field_bytes penalty_bytes) (λ fault bytes. FieldFails PenaltyFails fault p bytes) _ (field_reads penalty_at IsPenalty penalty_bytes penalty_reads p) (field_reports penalty_at PenaltyFails penalty_reports p) (λ _ _. later) in
+    reports_made (λ p. record { penalty = p.0; pause = p.1.0; label = p.1.1.0; ring = p.1.1.1 }) (λ bytes. both (field_at p penalty_at bytes) (λ _. later_fields_at flags)) (λ fault bytes. FieldsFail fault flags bytes) all

@@ -17,12 +17,12 @@ use Rattle.delta_codec.specs.Faults.{After, CellsFail, ContentFails, HasFault, I
 use Rattle.delta_codec.specs.Frames.{AreCells, AreRuns, AreTotals, Heading, IsHeading, IsVersion, heading_bytes, magic}
 use Rattle.delta_codec.specs.Parts.{byte, cell_bytes, list_bytes, run_bytes, total_bytes}
 use Rattle.delta_codec.specs.Reading.{◌>>=◌, Kept, Read, cells_at, content_in, ended, heading_at, is_version, kept_at, kept_in, known_of, live_of, made, magic_at, runs_at, totals_at, totals_of, version_at, within_at}
-use Rattle.delta_codec.proofs.CellFaults.{heading_tells}
+use Rattle.delta_codec.proofs.CellFaults.{heading_reports}
 use Rattle.delta_codec.proofs.CellLaws.{heading_reads}
 use Rattle.delta_codec.proofs.ContentLaws.{cells_known, known_cells, magic_reads, version_reads}
-use Rattle.delta_codec.proofs.ListFaults.{cells_tell, runs_tell, totals_tell}
+use Rattle.delta_codec.proofs.ListFaults.{cells_report, runs_report, totals_report}
 use Rattle.delta_codec.proofs.ListLaws.{AreCellsOf, cells_reads, runs_reads, totals_reads}
-use Rattle.delta_codec.proofs.PartFaults.{HasOneFault, Tells, bind_err, fault_is, guard_err, last_err, tells_by, tells_kept, tells_lacks, tells_then}
+use Rattle.delta_codec.proofs.PartFaults.{HasOneFault, Reports, bind_err, fault_is, guard_err, last_err, reports_by, reports_kept, reports_lacks, reports_then}
 use Rattle.delta_codec.proofs.PartLaws.{IsBytes, IsBytes_take, Reads, number4_reads, reads_good}
 
 -- ---- magic and version
@@ -36,16 +36,16 @@ one_magic [] fault e = sym (fault_is {A = List ℕ × List ℕ} BadMagic fault e
 one_magic (q ∷ []) fault e = sym (fault_is {A = List ℕ × List ℕ} BadMagic fault e)
 one_magic (q ∷ d ∷ rest) fault e = let found : List ℕ × List ℕ = (magic, rest) in (last_err ((q == 81) && (d == 68)) found BadMagic fault e).1
 
-magic_tells : Tells magic_at (Lacks IsMagic (λ letters. letters) BadMagic)
-magic_tells = tells_lacks magic_at IsMagic (λ letters. letters) BadMagic magic_reads one_magic
+magic_reports : Reports magic_at (Lacks IsMagic (λ letters. letters) BadMagic)
+magic_reports = reports_lacks magic_at IsMagic (λ letters. letters) BadMagic magic_reads one_magic
 
 pub one_version : HasOneFault BadVersion version_at
 unfolding version_at
 one_version [] fault e = sym (fault_is {A = ℕ × List ℕ} BadVersion fault e)
 one_version (n ∷ rest) fault e = let found : ℕ × List ℕ = (n, rest) in (last_err (is_version n) found BadVersion fault e).1
 
-version_tells : Tells version_at (Lacks IsVersion byte BadVersion)
-version_tells = tells_lacks version_at IsVersion byte BadVersion version_reads one_version
+version_reports : Reports version_at (Lacks IsVersion byte BadVersion)
+version_reports = reports_lacks version_at IsVersion byte BadVersion version_reads one_version
 
 -- ---- the end
 
@@ -66,8 +66,8 @@ left_some rest some =
 abbrev MoreFollow : DecodeFault → List ℕ → Type 0
 MoreFollow fault rest = (rest ≢ []) × (fault ≡ BadRange)
 
-ended_tells : {A : Type 0} (x : A) → Tells (λ rest. ended (x, rest)) MoreFollow
-ended_tells x = record {
+ended_reports : {A : Type 0} (x : A) → Reports (λ rest. ended (x, rest)) MoreFollow
+ended_reports x = record {
   only = λ rest fault fits e. let some = last_err (length rest == 0) x BadRange fault e in (some_left rest some.0, some.1);
   always = λ rest fault fits h. rw (left_some rest h.0, h.1) refl;
 }
@@ -104,27 +104,27 @@ HeadingStop version fault heading = Lacks IsHeading heading_bytes BadRange fault
 abbrev VersionStop : DecodeFault → List ℕ → Type 0
 VersionStop fault versioned = Lacks IsVersion byte BadVersion fault versioned ⊎ After IsVersion byte (λ version heading. HeadingStop version fault heading) versioned
 
-totals_stop : (heading : Heading) (known : set.FinSet dot_cmp) (live : map.FinMap dot_cmp Holding) → Tells (totals_step heading known live) TotalsStop
-totals_stop heading known live = tells_kept totals_at totals_of (λ totals rest. ended ((heading, (known, (live, totals))), rest)) AreTotals (list_bytes total_bytes) TotalsFail (λ fault _ rest. MoreFollow fault rest) totals_reads totals_tell (λ totals _. ended_tells (heading, (known, (live, totals_of totals))))
+totals_stop : (heading : Heading) (known : set.FinSet dot_cmp) (live : map.FinMap dot_cmp Holding) → Reports (totals_step heading known live) TotalsStop
+totals_stop heading known live = reports_kept totals_at totals_of (λ totals rest. ended ((heading, (known, (live, totals))), rest)) AreTotals (list_bytes total_bytes) TotalsFail (λ fault _ rest. MoreFollow fault rest) totals_reads totals_report (λ totals _. ended_reports (heading, (known, (live, totals_of totals))))
 
 cells_of_runs_reads : (version : ℕ) (runs : List Run) → Reads (cells_at version (set.contains (known_of runs))) (AreCells version runs) (list_bytes cell_bytes)
 cells_of_runs_reads version runs = reads_good (cells_at version (set.contains (known_of runs))) (AreCellsOf version (set.contains (known_of runs))) (AreCells version runs) (list_bytes cell_bytes) (cells_reads version (set.contains (known_of runs))) (known_cells version runs) (cells_known version runs)
 
-cells_stop : (version : ℕ) (heading : Heading) (runs : List Run) → Tells (cells_step version heading (known_of runs)) (CellsStop version runs)
-cells_stop version heading runs = tells_kept (cells_at version (set.contains (known_of runs))) live_of (totals_step heading (known_of runs)) (AreCells version runs) (list_bytes cell_bytes) (CellsFail version runs) (λ fault _ rest. TotalsStop fault rest) (cells_of_runs_reads version runs) (cells_tell version runs) (λ cells _. totals_stop heading (known_of runs) (live_of cells))
+cells_stop : (version : ℕ) (heading : Heading) (runs : List Run) → Reports (cells_step version heading (known_of runs)) (CellsStop version runs)
+cells_stop version heading runs = reports_kept (cells_at version (set.contains (known_of runs))) live_of (totals_step heading (known_of runs)) (AreCells version runs) (list_bytes cell_bytes) (CellsFail version runs) (λ fault _ rest. TotalsStop fault rest) (cells_of_runs_reads version runs) (cells_report version runs) (λ cells _. totals_stop heading (known_of runs) (live_of cells))
 
-runs_stop : (version : ℕ) (heading : Heading) → Tells (runs_step version heading) (RunsStop version)
-runs_stop version heading = tells_kept runs_at known_of (cells_step version heading) AreRuns (list_bytes run_bytes) RunsFail (λ fault runs rest. CellsStop version runs fault rest) runs_reads runs_tell (λ runs _. cells_stop version heading runs)
+runs_stop : (version : ℕ) (heading : Heading) → Reports (runs_step version heading) (RunsStop version)
+runs_stop version heading = reports_kept runs_at known_of (cells_step version heading) AreRuns (list_bytes run_bytes) RunsFail (λ fault runs rest. CellsStop version runs fault rest) runs_reads runs_report (λ runs _. cells_stop version heading runs)
 
-heading_stop : (version : ℕ) → Tells (heading_step version) (HeadingStop version)
-heading_stop version = tells_then heading_at (runs_step version) IsHeading heading_bytes (Lacks IsHeading heading_bytes BadRange) (λ fault _ rest. RunsStop version fault rest) heading_reads heading_tells (λ heading _. runs_stop version heading)
+heading_stop : (version : ℕ) → Reports (heading_step version) (HeadingStop version)
+heading_stop version = reports_then heading_at (runs_step version) IsHeading heading_bytes (Lacks IsHeading heading_bytes BadRange) (λ fault _ rest. RunsStop version fault rest) heading_reads heading_reports (λ heading _. runs_stop version heading)
 
-version_stop : Tells version_step VersionStop
-version_stop = tells_then version_at heading_step IsVersion byte (Lacks IsVersion byte BadVersion) (λ fault version rest. HeadingStop version fault rest) version_reads version_tells (λ version _. heading_stop version)
+version_stop : Reports version_step VersionStop
+version_stop = reports_then version_at heading_step IsVersion byte (Lacks IsVersion byte BadVersion) (λ fault version rest. HeadingStop version fault rest) version_reads version_reports (λ version _. heading_stop version)
 
-pub content_tells : Tells kept_at ContentFails
+pub content_reports : Reports kept_at ContentFails
 unfolding kept_at
-content_tells = tells_then magic_at (λ _ rest. version_step rest) IsMagic (λ letters. letters) (Lacks IsMagic (λ letters. letters) BadMagic) (λ fault _ rest. VersionStop fault rest) magic_reads magic_tells (λ _ _. version_stop)
+content_reports = reports_then magic_at (λ _ rest. version_step rest) IsMagic (λ letters. letters) (Lacks IsMagic (λ letters. letters) BadMagic) (λ fault _ rest. VersionStop fault rest) magic_reads magic_reports (λ _ _. version_stop)
 
 -- ---- the length
 
@@ -152,8 +152,8 @@ one_length bytes fault e =
       | inr there ↦ absurd (let never = there.1 in cc)
     ]
 
-length_tells : Tells length_at (Lacks IsNumber4 number4 Truncated)
-length_tells = tells_lacks length_at IsNumber4 number4 Truncated length_reads one_length
+length_reports : Reports length_at (Lacks IsNumber4 number4 Truncated)
+length_reports = reports_lacks length_at IsNumber4 number4 Truncated length_reads one_length
 
 -- ---- what stands behind it
 
@@ -202,7 +202,7 @@ rest_only len rest fault fits e =
         | inl small ↦ inr (inl (small, sym (fault_is {A = Kept × ℕ} BadRange fault (sym (too_small len rest small) ∙ e))))
         | inr least ↦ elim (cases_lt (length rest) len) [
           | inl short ↦ inr (inr (inl (least, most, short, sym (fault_is {A = Kept × ℕ} Truncated fault (sym (too_short len rest least most short) ∙ e)))))
-          | inr there ↦ inr (inr (inr (least, most, there, content_tells.only (take len rest) fault (IsBytes_take len rest fits) (counted_fails (take len rest) fault (sym (all_there len rest least most there) ∙ e)))))
+          | inr there ↦ inr (inr (inr (least, most, there, content_reports.only (take len rest) fault (IsBytes_take len rest fits) (counted_fails (take len rest) fault (sym (all_there len rest least most there) ∙ e)))))
         ]
       ]
     ]
@@ -215,7 +215,7 @@ rest_always len rest fault fits h =
         | inl small ↦ rw small.1 (too_small len rest small.0)
         | inr more ↦ elim more [
           | inl short ↦ rw short.3 (too_short len rest short.0 short.1 short.2)
-          | inr there ↦ all_there len rest there.0 there.1 there.2 ∙ rw (content_tells.always (take len rest) fault (IsBytes_take len rest fits) there.3) refl
+          | inr there ↦ all_there len rest there.0 there.1 there.2 ∙ rw (content_reports.always (take len rest) fault (IsBytes_take len rest fits) there.3) refl
         ]
       ]
     ]
@@ -225,7 +225,7 @@ length_then true rule x f g = refl
 length_then false rule x f g = refl
 
 -- bytes have the fault with which reading them fails
-pub frame_tells : Tells kept_in (λ fault bytes. HasFault bytes fault)
+pub frame_reports : Reports kept_in (λ fault bytes. HasFault bytes fault)
 unfolding kept_in content_in
-frame_tells = tells_by kept_in (λ bytes. length_at bytes >>= λ x. rest_step x.0 x.1) (λ fault bytes. HasFault bytes fault) (λ bytes. length_then (ltb (length bytes) 4) Truncated (from_be_bytes w32 (take 4 bytes), drop 4 bytes) (λ x. within_at x.0 x.1) counted)
-    (tells_then length_at rest_step IsNumber4 number4 (Lacks IsNumber4 number4 Truncated) RestFails length_reads length_tells (λ len _. record { only = λ rest fault fits e. rest_only len rest fault fits e; always = λ rest fault fits h. rest_always len rest fault fits h }))
+frame_reports = reports_by kept_in (λ bytes. length_at bytes >>= λ x. rest_step x.0 x.1) (λ fault bytes. HasFault bytes fault) (λ bytes. length_then (ltb (length bytes) 4) Truncated (from_be_bytes w32 (take 4 bytes), drop 4 bytes) (λ x. within_at x.0 x.1) counted)
+    (reports_then length_at rest_step IsNumber4 number4 (Lacks IsNumber4 number4 Truncated) RestFails length_reads length_reports (λ len _. record { only = λ rest fault fits e. rest_only len rest fault fits e; always = λ rest fault fits h. rest_always len rest fault fits h }))

@@ -17,11 +17,11 @@ use Rattle.delta_codec.specs.Faults.{After, CellFails, CellsFail, ElementsFail, 
 use Rattle.delta_codec.specs.Frames.{AreCells, AreRuns, AreTotals}
 use Rattle.delta_codec.specs.Parts.{CellParts, IsCell, TotalParts, cell_bytes, run_bytes, total_bytes}
 use Rattle.delta_codec.specs.Reading.{◌>>=◌, Elements, accepted, cell_elements, cells_at, elements_at, is_dot_before, is_key_before, known_of, list_at, next_at, number_at, or_else, order_fault, run_elements, runs_at, size_at, total_elements, totals_at, unless}
-use Rattle.delta_codec.proofs.CellFaults.{cell_tells, run_tells, total_tells}
+use Rattle.delta_codec.proofs.CellFaults.{cell_reports, run_reports, total_reports}
 use Rattle.delta_codec.proofs.CellLaws.{cell_reads, run_reads, total_reads}
 use Rattle.delta_codec.proofs.ContentLaws.{cells_known, contains_known_of, known_cells}
 use Rattle.delta_codec.proofs.ListLaws.{AreElements, Chain, last_key, cells_are_read, next_takes, read_are_cells, read_are_runs, read_are_totals, runs_are_read, totals_are_read}
-use Rattle.delta_codec.proofs.PartFaults.{IsBytes_behind, Tells, bind_err, is_over, is_under, one_number, over, tells_by, tells_lacks, tells_then, test_err, under}
+use Rattle.delta_codec.proofs.PartFaults.{IsBytes_behind, Reports, bind_err, is_over, is_under, one_number, over, reports_by, reports_lacks, reports_then, test_err, under}
 use Rattle.delta_codec.proofs.PartLaws.{IsBytes, Reads, number4_reads}
 
 -- ---- elements
@@ -86,12 +86,12 @@ refused None x fault h = absurd cc
 refused (Some d) x fault h = let same : d ≡ fault = cc in ap (λ (y : DecodeFault). Some y) same
 
 -- the next element is at fault, or it can't stand behind those before
-next_tells : {A K : Type 0} (e : Elements A K) (G : A → Type 0) (s : A → List ℕ) (F : DecodeFault → List ℕ → Type 0) (Breaks : DecodeFault → List A → A → Type 0) → Reads e.at G s → Tells e.at F
+next_reports : {A K : Type 0} (e : Elements A K) (G : A → Type 0) (s : A → List ℕ) (F : DecodeFault → List ℕ → Type 0) (Breaks : DecodeFault → List A → A → Type 0) → Reads e.at G s → Reports e.at F
     → ((fault : DecodeFault) (before : List A) (x : A) → fault_behind e before x ≡ Some fault → Breaks fault before x) → ((fault : DecodeFault) (before : List A) (x : A) → Breaks fault before x → fault_behind e before x ≡ Some fault)
-    → (before : List A) → Tells (next_at e (last_key e None before)) (λ fault rest. F fault rest ⊎ After G s (λ x _. Breaks fault before x) rest)
-next_tells e G s F Breaks r t there back before =
+    → (before : List A) → Reports (next_at e (last_key e None before)) (λ fault rest. F fault rest ⊎ After G s (λ x _. Breaks fault before x) rest)
+next_reports e G s F Breaks r t there back before =
     let same = last_key_is e None before in
-    tells_then e.at (λ x rest. accepted (e.fault_of (last_key e None before) (e.key x)) (x, rest)) G s F (λ fault x _. Breaks fault before x) r t (λ x g. record {
+    reports_then e.at (λ x rest. accepted (e.fault_of (last_key e None before) (e.key x)) (x, rest)) G s F (λ fault x _. Breaks fault before x) r t (λ x g. record {
       only = λ rest fault fits h. there fault before x (ap (λ k. e.fault_of k (e.key x)) (sym same) ∙ refused (e.fault_of (last_key e None before) (e.key x)) (x, rest) fault h);
       always = λ rest fault fits h. rw (ap (λ k. e.fault_of k (e.key x)) same ∙ back fault before x h) refl;
     })
@@ -109,7 +109,7 @@ counted_at e most n rest = let found : ℕ × List ℕ = (n, rest) in cond (nat_
 abbrev CountedFail : {A : Type 0} → (List A → Type 0) → (A → List ℕ) → ℕ → (DecodeFault → List A → List ℕ → Type 0) → DecodeFault → ℕ → List ℕ → Type 0
 CountedFail IsGood s most NextFails fault n rest = ((most < n) × (fault ≡ TooLarge)) ⊎ ((n ≤ most) × ElementsFail IsGood s (NextFails fault) n rest)
 
-module _ {A K : Type 0} (e : Elements A K) (G : A → Type 0) (s : A → List ℕ) (most : ℕ) (IsGood : List A → Type 0) (NextFails : DecodeFault → List A → List ℕ → Type 0) (r : Reads e.at G s) (nexts : (before : List A) → Tells (next_at e (last_key e None before)) (λ fault rest. NextFails fault before rest)) (there : (xs : List A) → AreElements e G most xs → IsGood xs) (back : (xs : List A) → IsGood xs → AreElements e G most xs) where
+module _ {A K : Type 0} (e : Elements A K) (G : A → Type 0) (s : A → List ℕ) (most : ℕ) (IsGood : List A → Type 0) (NextFails : DecodeFault → List A → List ℕ → Type 0) (r : Reads e.at G s) (nexts : (before : List A) → Reports (next_at e (last_key e None before)) (λ fault rest. NextFails fault before rest)) (there : (xs : List A) → AreElements e G most xs → IsGood xs) (back : (xs : List A) → IsGood xs → AreElements e G most xs) where
   counted_only : (n : ℕ) (rest : List ℕ) (fault : DecodeFault) → IsBytes rest → counted_at e most n rest ≡ Err fault → CountedFail IsGood s most NextFails fault n rest
   counted_only n rest fault fits h =
       let found : ℕ × List ℕ = (n, rest) in
@@ -142,10 +142,10 @@ module _ {A K : Type 0} (e : Elements A K) (G : A → Type 0) (s : A → List �
             rw (is_under n most few.0) (ap (elements_at e n None) f.spelled ∙ fails)
       ]
 
-  list_tells : Tells (list_at e most) (ListFails IsGood s most NextFails)
+  list_reports : Reports (list_at e most) (ListFails IsGood s most NextFails)
   unfolding list_at size_at
-  list_tells = tells_by (list_at e most) (λ bytes. number_at w32 bytes >>= λ n. counted_at e most n.0 n.1) (ListFails IsGood s most NextFails) (λ bytes. regrouped (number_at w32 bytes) (λ x. cond (nat_le x.0 most) (Ok x) (Err TooLarge)) (λ m. elements_at e m.0 None m.1))
-      (tells_then (number_at w32) (counted_at e most) IsNumber4 number4 (Lacks IsNumber4 number4 BadRange) (CountedFail IsGood s most NextFails) number4_reads (tells_lacks (number_at w32) IsNumber4 number4 BadRange number4_reads (one_number w32)) (λ n _. record { only = λ rest fault fits h. counted_only n rest fault fits h; always = λ rest fault fits h. counted_always n rest fault fits h }))
+  list_reports = reports_by (list_at e most) (λ bytes. number_at w32 bytes >>= λ n. counted_at e most n.0 n.1) (ListFails IsGood s most NextFails) (λ bytes. regrouped (number_at w32 bytes) (λ x. cond (nat_le x.0 most) (Ok x) (Err TooLarge)) (λ m. elements_at e m.0 None m.1))
+      (reports_then (number_at w32) (counted_at e most) IsNumber4 number4 (Lacks IsNumber4 number4 BadRange) (CountedFail IsGood s most NextFails) number4_reads (reports_lacks (number_at w32) IsNumber4 number4 BadRange number4_reads (one_number w32)) (λ n _. record { only = λ rest fault fits h. counted_only n rest fault fits h; always = λ rest fault fits h. counted_always n rest fault fits h }))
 
 -- ---- order
 
@@ -189,9 +189,9 @@ keeps_order key follows (Some y) x h = ap (λ b. unless b BadOrder) h
 
 -- ---- runs and totals
 
-pub runs_tell : Tells runs_at RunsFail
-runs_tell = list_tells run_elements IsRunWithinLimits run_bytes MOST_RUNS AreRuns RunFails run_reads
-    (next_tells run_elements IsRunWithinLimits run_bytes (Lacks IsRunWithinLimits run_bytes BadRange) (λ fault before run. ¬ FollowsLast is_apart before run × (fault ≡ BadOrder)) run_reads run_tells
+pub runs_report : Reports runs_at RunsFail
+runs_report = list_reports run_elements IsRunWithinLimits run_bytes MOST_RUNS AreRuns RunFails run_reads
+    (next_reports run_elements IsRunWithinLimits run_bytes (Lacks IsRunWithinLimits run_bytes BadRange) (λ fault before run. ¬ FollowsLast is_apart before run × (fault ≡ BadOrder)) run_reads run_reports
     (λ fault before run h. order_fails (λ (r : Run). r) is_apart (last_or None before) run fault h)
     (λ fault before run h. fails_order (λ (r : Run). r) is_apart (last_or None before) run fault h.0 h.1))
     read_are_runs runs_are_read
@@ -199,9 +199,9 @@ runs_tell = list_tells run_elements IsRunWithinLimits run_bytes MOST_RUNS AreRun
 abbrev key_of : TotalParts → Key
 key_of total = total.0
 
-pub totals_tell : Tells totals_at TotalsFail
-totals_tell = list_tells total_elements (λ total. IsTotal total.0 total.1) total_bytes MOST_TOTALS AreTotals TotalFails total_reads
-    (next_tells total_elements (λ total. IsTotal total.0 total.1) total_bytes (Lacks (λ total. IsTotal total.0 total.1) total_bytes BadRange) (λ fault before total. ¬ FollowsLast is_total_before before total × (fault ≡ BadOrder)) total_reads total_tells
+pub totals_report : Reports totals_at TotalsFail
+totals_report = list_reports total_elements (λ total. IsTotal total.0 total.1) total_bytes MOST_TOTALS AreTotals TotalFails total_reads
+    (next_reports total_elements (λ total. IsTotal total.0 total.1) total_bytes (Lacks (λ total. IsTotal total.0 total.1) total_bytes BadRange) (λ fault before total. ¬ FollowsLast is_total_before before total × (fault ≡ BadOrder)) total_reads total_reports
     (λ fault before total h. order_fails key_of is_key_before (last_or None before) total fault h)
     (λ fault before total h. fails_order key_of is_key_before (last_or None before) total fault h.0 h.1))
     read_are_totals totals_are_read
@@ -234,8 +234,8 @@ breaks_cell version runs fault before cell h =
       | inr dot ↦ ap (λ o. or_else o (unless (set.contains (known_of runs) cell.0) BadRange)) (keeps_order dot_of is_dot_before (last_or None before) cell dot.0) ∙ fails_unless (set.contains (known_of runs) cell.0) BadRange fault (contains_known_of runs cell.0 ∙ dot.1) dot.2
     ]
 
-pub cells_tell : (version : ℕ) (runs : List Run) → Tells (cells_at version (set.contains (known_of runs))) (CellsFail version runs)
-cells_tell version runs = list_tells (cell_elements version (set.contains (known_of runs))) (IsCell version) cell_bytes MOST_LIVE (AreCells version runs) (NextCellFails version runs) (cell_reads version)
-    (next_tells (cell_elements version (set.contains (known_of runs))) (IsCell version) cell_bytes (CellFails version) (CellBreaks runs) (cell_reads version) (cell_tells version) (cell_breaks version runs) (breaks_cell version runs))
+pub cells_report : (version : ℕ) (runs : List Run) → Reports (cells_at version (set.contains (known_of runs))) (CellsFail version runs)
+cells_report version runs = list_reports (cell_elements version (set.contains (known_of runs))) (IsCell version) cell_bytes MOST_LIVE (AreCells version runs) (NextCellFails version runs) (cell_reads version)
+    (next_reports (cell_elements version (set.contains (known_of runs))) (IsCell version) cell_bytes (CellFails version) (CellBreaks runs) (cell_reads version) (cell_reports version) (cell_breaks version runs) (breaks_cell version runs))
     (λ xs g. known_cells version runs xs (read_are_cells version (set.contains (known_of runs)) xs g))
     (λ xs g. cells_are_read version (set.contains (known_of runs)) xs (cells_known version runs xs g))

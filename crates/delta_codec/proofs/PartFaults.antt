@@ -11,7 +11,7 @@ use Rattle.delta_codec.specs.Reading.{◌>>=◌, Read, both, byte_at, made, numb
 use Rattle.delta_codec.proofs.PartLaws.{IsBytes, IsBytes_drop, Reads}
 
 -- what is read fails with a fault where bytes have it, and nowhere else
-pub record Tells {B : Type 0} (read : List ℕ → Result B DecodeFault) (Has : DecodeFault → List ℕ → Type 0) : Type 0 where
+pub record Reports {B : Type 0} (read : List ℕ → Result B DecodeFault) (Has : DecodeFault → List ℕ → Type 0) : Type 0 where
   pub only : (bytes : List ℕ) (fault : DecodeFault) → IsBytes bytes → read bytes ≡ Err fault → Has fault bytes
   pub always : (bytes : List ℕ) (fault : DecodeFault) → IsBytes bytes → Has fault bytes → read bytes ≡ Err fault
 
@@ -69,23 +69,23 @@ IsBytes_behind front rest fits = subst (λ (x : List ℕ). IsBytes x) (drop_at f
 -- ---- parts of parts
 
 -- of two that are read alike
-pub tells_by : {B : Type 0} (read other : List ℕ → Result B DecodeFault) (F : DecodeFault → List ℕ → Type 0) → ((bytes : List ℕ) → read bytes ≡ other bytes) → Tells other F → Tells read F
-tells_by read other F same t = record {
+pub reports_by : {B : Type 0} (read other : List ℕ → Result B DecodeFault) (F : DecodeFault → List ℕ → Type 0) → ((bytes : List ℕ) → read bytes ≡ other bytes) → Reports other F → Reports read F
+reports_by read other F same t = record {
   only = λ bytes fault fits e. t.only bytes fault fits (sym (same bytes) ∙ e);
   always = λ bytes fault fits h. same bytes ∙ t.always bytes fault fits h;
 }
 
 -- of two relations that say the same
-pub tells_same : {B : Type 0} (read : List ℕ → Result B DecodeFault) (F H : DecodeFault → List ℕ → Type 0) → Tells read F → ((fault : DecodeFault) (bytes : List ℕ) → F fault bytes → H fault bytes) → ((fault : DecodeFault) (bytes : List ℕ) → H fault bytes → F fault bytes) → Tells read H
-tells_same read F H t there back = record {
+pub reports_same : {B : Type 0} (read : List ℕ → Result B DecodeFault) (F H : DecodeFault → List ℕ → Type 0) → Reports read F → ((fault : DecodeFault) (bytes : List ℕ) → F fault bytes → H fault bytes) → ((fault : DecodeFault) (bytes : List ℕ) → H fault bytes → F fault bytes) → Reports read H
+reports_same read F H t there back = record {
   only = λ bytes fault fits e. there fault bytes (t.only bytes fault fits e);
   always = λ bytes fault fits h. t.always bytes fault fits (back fault bytes h);
 }
 
 -- of a part and what stands behind it: the part is at fault, or what follows a good one
-pub tells_then : {A B : Type 0} (first : List ℕ → Read A) (next : A → List ℕ → Result B DecodeFault) (G : A → Type 0) (s : A → List ℕ) (F : DecodeFault → List ℕ → Type 0) (H : DecodeFault → A → List ℕ → Type 0)
-    → Reads first G s → Tells first F → ((x : A) → G x → Tells (next x) (λ fault rest. H fault x rest)) → Tells (λ bytes. first bytes >>= λ x. next x.0 x.1) (λ fault bytes. F fault bytes ⊎ After G s (H fault) bytes)
-tells_then first next G s F H r t u = record {
+pub reports_then : {A B : Type 0} (first : List ℕ → Read A) (next : A → List ℕ → Result B DecodeFault) (G : A → Type 0) (s : A → List ℕ) (F : DecodeFault → List ℕ → Type 0) (H : DecodeFault → A → List ℕ → Type 0)
+    → Reads first G s → Reports first F → ((x : A) → G x → Reports (next x) (λ fault rest. H fault x rest)) → Reports (λ bytes. first bytes >>= λ x. next x.0 x.1) (λ fault bytes. F fault bytes ⊎ After G s (H fault) bytes)
+reports_then first next G s F H r t u = record {
   only = λ bytes fault fits e.
       elim (bind_err (first bytes) (λ x. next x.0 x.1) fault e) [
         | inl here ↦ inl (t.only bytes fault fits here)
@@ -104,8 +104,8 @@ tells_then first next G s F H r t u = record {
 }
 
 -- of what is made of a value
-pub tells_mapped : {A B : Type 0} (read : List ℕ → Result A DecodeFault) (f : A → B) (F : DecodeFault → List ℕ → Type 0) → Tells read F → Tells (λ bytes. read bytes >>= λ x. Ok (f x)) F
-tells_mapped read f F t = record {
+pub reports_mapped : {A B : Type 0} (read : List ℕ → Result A DecodeFault) (f : A → B) (F : DecodeFault → List ℕ → Type 0) → Reports read F → Reports (λ bytes. read bytes >>= λ x. Ok (f x)) F
+reports_mapped read f F t = record {
   only = λ bytes fault fits e.
       elim (bind_err (read bytes) (λ x. Ok (f x)) fault e) [
         | inl here ↦ t.only bytes fault fits here
@@ -114,21 +114,21 @@ tells_mapped read f F t = record {
   always = λ bytes fault fits h. rw (t.always bytes fault fits h) refl;
 }
 
-pub tells_made : {A B : Type 0} (f : A → B) (read : List ℕ → Read A) (F : DecodeFault → List ℕ → Type 0) → Tells read F → Tells (λ bytes. made f (read bytes)) F
-tells_made f read F t = tells_mapped read (λ x. (f x.0, x.1)) F t
+pub reports_made : {A B : Type 0} (f : A → B) (read : List ℕ → Read A) (F : DecodeFault → List ℕ → Type 0) → Reports read F → Reports (λ bytes. made f (read bytes)) F
+reports_made f read F t = reports_mapped read (λ x. (f x.0, x.1)) F t
 
-pub tells_both : {A B : Type 0} (first : List ℕ → Read A) (next : A → List ℕ → Read B) (G : A → Type 0) (s : A → List ℕ) (F : DecodeFault → List ℕ → Type 0) (H : DecodeFault → A → List ℕ → Type 0)
-    → Reads first G s → Tells first F → ((x : A) → G x → Tells (next x) (λ fault rest. H fault x rest)) → Tells (λ bytes. both (first bytes) next) (λ fault bytes. F fault bytes ⊎ After G s (H fault) bytes)
-tells_both first next G s F H r t u = tells_then first (λ x rest. next x rest >>= λ y. Ok ((x, y.0), y.1)) G s F H r t (λ x g. tells_mapped (next x) (λ y. ((x, y.0), y.1)) (λ fault rest. H fault x rest) (u x g))
+pub reports_both : {A B : Type 0} (first : List ℕ → Read A) (next : A → List ℕ → Read B) (G : A → Type 0) (s : A → List ℕ) (F : DecodeFault → List ℕ → Type 0) (H : DecodeFault → A → List ℕ → Type 0)
+    → Reads first G s → Reports first F → ((x : A) → G x → Reports (next x) (λ fault rest. H fault x rest)) → Reports (λ bytes. both (first bytes) next) (λ fault bytes. F fault bytes ⊎ After G s (H fault) bytes)
+reports_both first next G s F H r t u = reports_then first (λ x rest. next x rest >>= λ y. Ok ((x, y.0), y.1)) G s F H r t (λ x g. reports_mapped (next x) (λ y. ((x, y.0), y.1)) (λ fault rest. H fault x rest) (u x g))
 
 kept_then : {A B D : Type 0} (f : A → D) (r : Read A) (g : D × List ℕ → Result B DecodeFault) → (made f r >>= g) ≡ (r >>= λ x. g (f x.0, x.1))
 kept_then f (Ok x) g = refl
 kept_then f (Err fault) g = refl
 
 -- of a part of which something is kept, and what stands behind it
-pub tells_kept : {A B D : Type 0} (first : List ℕ → Read A) (f : A → D) (next : D → List ℕ → Result B DecodeFault) (G : A → Type 0) (s : A → List ℕ) (F : DecodeFault → List ℕ → Type 0) (H : DecodeFault → A → List ℕ → Type 0)
-    → Reads first G s → Tells first F → ((x : A) → G x → Tells (next (f x)) (λ fault rest. H fault x rest)) → Tells (λ bytes. made f (first bytes) >>= λ x. next x.0 x.1) (λ fault bytes. F fault bytes ⊎ After G s (H fault) bytes)
-tells_kept first f next G s F H r t u = tells_by (λ bytes. made f (first bytes) >>= λ x. next x.0 x.1) (λ bytes. first bytes >>= λ x. next (f x.0) x.1) (λ fault bytes. F fault bytes ⊎ After G s (H fault) bytes) (λ bytes. kept_then f (first bytes) (λ x. next x.0 x.1)) (tells_then first (λ x. next (f x)) G s F H r t u)
+pub reports_kept : {A B D : Type 0} (first : List ℕ → Read A) (f : A → D) (next : D → List ℕ → Result B DecodeFault) (G : A → Type 0) (s : A → List ℕ) (F : DecodeFault → List ℕ → Type 0) (H : DecodeFault → A → List ℕ → Type 0)
+    → Reads first G s → Reports first F → ((x : A) → G x → Reports (next (f x)) (λ fault rest. H fault x rest)) → Reports (λ bytes. made f (first bytes) >>= λ x. next x.0 x.1) (λ fault bytes. F fault bytes ⊎ After G s (H fault) bytes)
+reports_kept first f next G s F H r t u = reports_by (λ bytes. made f (first bytes) >>= λ x. next x.0 x.1) (λ bytes. first bytes >>= λ x. next (f x.0) x.1) (λ fault bytes. F fault bytes ⊎ After G s (H fault) bytes) (λ bytes. kept_then f (first bytes) (λ x. next x.0 x.1)) (reports_then first (λ x. next (f x)) G s F H r t u)
 
 -- ---- parts that have one fault
 
@@ -172,8 +172,8 @@ pub one_both : {A B : Type 0} (first : List ℕ → Read A) (next : A → List �
 one_both first next rule f g = one_then first (λ x rest. next x rest >>= λ y. Ok ((x, y.0), y.1)) rule f (λ x. one_mapped (next x) (λ y. ((x, y.0), y.1)) rule (g x))
 
 -- such a part is at fault where no good one stands
-pub tells_lacks : {A : Type 0} (read : List ℕ → Read A) (G : A → Type 0) (s : A → List ℕ) (rule : DecodeFault) → Reads read G s → HasOneFault rule read → Tells read (Lacks G s rule)
-tells_lacks read G s rule r one = record {
+pub reports_lacks : {A : Type 0} (read : List ℕ → Read A) (G : A → Type 0) (s : A → List ℕ) (rule : DecodeFault) → Reads read G s → HasOneFault rule read → Reports read (Lacks G s rule)
+reports_lacks read G s rule r one = record {
   only = λ bytes fault fits e. record {
     none = λ value rest good spelled. not_both (read bytes) (value, rest) fault (ap read spelled ∙ r.again value rest good) e;
     fault_is = one bytes fault e;

@@ -63,7 +63,7 @@ pub record HasOpening (bytes : List ℕ) : Type 0 where
 -- begun.
 pub record IsFrontFault (bytes : List ℕ) (result : Result (Frame × ℕ) DecodeFault) : Type 0 where
   pub had : IfErr result (λ fault. (fault ≡ Memory) ⊎ HasFault bytes fault)
-  pub told : (fault : DecodeFault) → HasFault bytes fault → UnlessMemory result (result ≡ Err fault)
+  pub reported : (fault : DecodeFault) → HasFault bytes fault → UnlessMemory result (result ≡ Err fault)
   pub truncated : HasFault bytes Truncated → result ≡ Err Truncated
   pub memory : result ≡ Err Memory → HasOpening bytes
 
@@ -97,5 +97,5 @@ pub record IsNextFrame (old : List ℕ) (result : Result (Option Frame) DecodeFa
 pub record IsNextFault (old : List ℕ) (result : Result (Option Frame) DecodeFault) : Type 0 where
   pub none : (result ≡ Ok None) ↔ HasFault old Truncated
   pub had : IfErr result (λ fault. (fault ≡ Memory) ⊎ (HasFault old fault × (fault ≢ Truncated)))
-  pub told : (fault : DecodeFault) → HasFault old fault → fault ≢ Truncated → UnlessMemory result (result ≡ Err fault)
+  pub reported : (fault : DecodeFault) → HasFault old fault → fault ≢ Truncated → UnlessMemory result (result ≡ Err fault)
   pub memory : result ≡ Err Memory → HasOpening old

@@ -37,63 +37,63 @@ use Rattle.event_script.proofs.Saying.{AreFields, command_fields_are, few_fields
 
 -- ---- the pool
 
--- the place that an outcome tells, if it made a frame
-abbrev told_place : Outcome → Option ℕ
-told_place (outcome.Cut (Ok place)) = place
-told_place other = None
+-- the place that an outcome reports, if it made a frame
+abbrev reported_place : Outcome → Option ℕ
+reported_place (outcome.Cut (Ok place)) = place
+reported_place other = None
 
 -- a frame that is made goes to the end of the pool
-framed_place : (w : World) (site place : ℕ) (after : SiteKnowledge × steps.Outcome) → told_place (framed site (length w.pool) after).outcome ≡ Some place
+framed_place : (w : World) (site place : ℕ) (after : SiteKnowledge × steps.Outcome) → reported_place (framed site (length w.pool) after).outcome ≡ Some place
     → (place ≡ length w.pool) × (length (w.pool ++ (framed site (length w.pool) after).added) ≡ length w.pool + 1)
-framed_place w site place (s, steps.Framed number carried) told = (sym (one_some _ _ told), length-append w.pool _)
-framed_place w site place (s, steps.Done) told = absurd (none_some place told)
-framed_place w site place (s, steps.Denied refusal) told = absurd (none_some place told)
-framed_place w site place (s, steps.Nothing) told = absurd (none_some place told)
-framed_place w site place (s, steps.NoNumber) told = absurd (none_some place told)
-framed_place w site place (s, steps.Taken) told = absurd (none_some place told)
-framed_place w site place (s, steps.CellsFull) told = absurd (none_some place told)
-framed_place w site place (s, steps.RunsFull) told = absurd (none_some place told)
+framed_place w site place (s, steps.Framed number carried) reported = (sym (one_some _ _ reported), length-append w.pool _)
+framed_place w site place (s, steps.Done) reported = absurd (none_some place reported)
+framed_place w site place (s, steps.Denied refusal) reported = absurd (none_some place reported)
+framed_place w site place (s, steps.Nothing) reported = absurd (none_some place reported)
+framed_place w site place (s, steps.NoNumber) reported = absurd (none_some place reported)
+framed_place w site place (s, steps.Taken) reported = absurd (none_some place reported)
+framed_place w site place (s, steps.CellsFull) reported = absurd (none_some place reported)
+framed_place w site place (s, steps.RunsFull) reported = absurd (none_some place reported)
 
 -- a cut or a whole without a frame leaves the pool
-framed_nothing : (w : World) (site : ℕ) (after : SiteKnowledge × steps.Outcome) → told_place (framed site (length w.pool) after).outcome ≡ None
+framed_nothing : (w : World) (site : ℕ) (after : SiteKnowledge × steps.Outcome) → reported_place (framed site (length w.pool) after).outcome ≡ None
     → length (w.pool ++ (framed site (length w.pool) after).added) ≡ length w.pool
-framed_nothing w site (s, steps.Framed number carried) told = absurd (none_some _ (sym told))
-framed_nothing w site (s, steps.Done) told = ap (λ (p : List Entry). length p) (append-nil w.pool)
-framed_nothing w site (s, steps.Denied refusal) told = ap (λ (p : List Entry). length p) (append-nil w.pool)
-framed_nothing w site (s, steps.Nothing) told = ap (λ (p : List Entry). length p) (append-nil w.pool)
-framed_nothing w site (s, steps.NoNumber) told = ap (λ (p : List Entry). length p) (append-nil w.pool)
-framed_nothing w site (s, steps.Taken) told = ap (λ (p : List Entry). length p) (append-nil w.pool)
-framed_nothing w site (s, steps.CellsFull) told = ap (λ (p : List Entry). length p) (append-nil w.pool)
-framed_nothing w site (s, steps.RunsFull) told = ap (λ (p : List Entry). length p) (append-nil w.pool)
+framed_nothing w site (s, steps.Framed number carried) reported = absurd (none_some _ (sym reported))
+framed_nothing w site (s, steps.Done) reported = ap (λ (p : List Entry). length p) (append-nil w.pool)
+framed_nothing w site (s, steps.Denied refusal) reported = ap (λ (p : List Entry). length p) (append-nil w.pool)
+framed_nothing w site (s, steps.Nothing) reported = ap (λ (p : List Entry). length p) (append-nil w.pool)
+framed_nothing w site (s, steps.NoNumber) reported = ap (λ (p : List Entry). length p) (append-nil w.pool)
+framed_nothing w site (s, steps.Taken) reported = ap (λ (p : List Entry). length p) (append-nil w.pool)
+framed_nothing w site (s, steps.CellsFull) reported = ap (λ (p : List Entry). length p) (append-nil w.pool)
+framed_nothing w site (s, steps.RunsFull) reported = ap (λ (p : List Entry). length p) (append-nil w.pool)
 
 -- the frame of a cut, and of a whole, goes to the end of the pool
 pub cut_place : (names : List (List ℕ)) (w : World) (site place : ℕ) → (happens names w (event.Cut site)).1 ≡ outcome.Cut (Ok (Some place))
     → (place ≡ length w.pool) × (length (happens names w (event.Cut site)).0.pool ≡ length w.pool + 1)
-cut_place names w site place told = by (slice_get w.sites site) (ap told_place told)
+cut_place names w site place reported = by (slice_get w.sites site) (ap reported_place reported)
   where
-    by : (s : Option SiteKnowledge) → told_place (happens_where names w site s (event.Cut site)).1 ≡ Some place
+    by : (s : Option SiteKnowledge) → reported_place (happens_where names w site s (event.Cut site)).1 ≡ Some place
         → (place ≡ length w.pool) × (length (happens_where names w site s (event.Cut site)).0.pool ≡ length w.pool + 1)
-    by None told = absurd (none_some place told)
-    by (Some s) told = framed_place w site place (steps.step site names s steps.Cut) told
+    by None reported = absurd (none_some place reported)
+    by (Some s) reported = framed_place w site place (steps.step site names s steps.Cut) reported
 
 pub whole_place : (names : List (List ℕ)) (w : World) (site place : ℕ) → (happens names w (event.Whole site)).1 ≡ outcome.Cut (Ok (Some place))
     → (place ≡ length w.pool) × (length (happens names w (event.Whole site)).0.pool ≡ length w.pool + 1)
-whole_place names w site place told = by (slice_get w.sites site) (ap told_place told)
+whole_place names w site place reported = by (slice_get w.sites site) (ap reported_place reported)
   where
-    by : (s : Option SiteKnowledge) → told_place (happens_where names w site s (event.Whole site)).1 ≡ Some place
+    by : (s : Option SiteKnowledge) → reported_place (happens_where names w site s (event.Whole site)).1 ≡ Some place
         → (place ≡ length w.pool) × (length (happens_where names w site s (event.Whole site)).0.pool ≡ length w.pool + 1)
-    by None told = absurd (none_some place told)
-    by (Some s) told = framed_place w site place (steps.step site names s steps.Whole) told
+    by None reported = absurd (none_some place reported)
+    by (Some s) reported = framed_place w site place (steps.step site names s steps.Whole) reported
 
 -- an empty cut leaves the pool
 cut_pool : (names : List (List ℕ)) (w : World) (site : ℕ) → (happens names w (event.Cut site)).1 ≡ outcome.Cut (Ok None)
     → length (happens names w (event.Cut site)).0.pool ≡ length w.pool
-cut_pool names w site told = by (slice_get w.sites site) (ap told_place told)
+cut_pool names w site reported = by (slice_get w.sites site) (ap reported_place reported)
   where
-    by : (s : Option SiteKnowledge) → told_place (happens_where names w site s (event.Cut site)).1 ≡ None
+    by : (s : Option SiteKnowledge) → reported_place (happens_where names w site s (event.Cut site)).1 ≡ None
         → length (happens_where names w site s (event.Cut site)).0.pool ≡ length w.pool
-    by None told = refl
-    by (Some s) told = framed_nothing w site (steps.step site names s steps.Cut) told
+    by None reported = refl
+    by (Some s) reported = framed_nothing w site (steps.step site names s steps.Cut) reported
 
 -- an ask and a take leave the pool
 ask_pool : (names : List (List ℕ)) (w : World) (site : ℕ) (asked : Ask) → length (happens names w (event.Ask site asked)).0.pool ≡ length w.pool
@@ -116,23 +116,23 @@ take_pool names w site entry = by (slice_get w.sites site)
 
 -- the pool grows by the frames of a deed
 pub pool_grows : (names : List (List ℕ)) (w : World) (e : Event) (done : StepDeed) → GivesDeed names w e done → length (happens names w e).0.pool ≡ length w.pool + frames_in done
-pool_grows names w (event.Ask site asked) (deed.Asked told a) gives = let n = ask_pool names w site asked in omega (arith, n)
+pool_grows names w (event.Ask site asked) (deed.Asked reported a) gives = let n = ask_pool names w site asked in omega (arith, n)
 pool_grows names w (event.Ask site asked) (deed.Took bytes) gives = absurd gives
 pool_grows names w (event.Ask site asked) (deed.Cut made) gives = absurd gives
 pool_grows names w (event.Ask site asked) (deed.Whole bytes) gives = absurd gives
-pool_grows names w (event.Take site entry) (deed.Asked told a) gives = absurd gives
+pool_grows names w (event.Take site entry) (deed.Asked reported a) gives = absurd gives
 pool_grows names w (event.Take site entry) (deed.Took bytes) gives = let n = take_pool names w site entry in omega (arith, n)
 pool_grows names w (event.Take site entry) (deed.Cut made) gives = absurd gives
 pool_grows names w (event.Take site entry) (deed.Whole bytes) gives = absurd gives
-pool_grows names w (event.Cut site) (deed.Asked told a) gives = absurd gives
+pool_grows names w (event.Cut site) (deed.Asked reported a) gives = absurd gives
 pool_grows names w (event.Cut site) (deed.Took bytes) gives = absurd gives
 pool_grows names w (event.Cut site) (deed.Cut None) gives = let n = cut_pool names w site gives in omega (arith, n)
-pool_grows names w (event.Cut site) (deed.Cut (Some bytes)) gives = (cut_place names w site gives.place gives.told).1
+pool_grows names w (event.Cut site) (deed.Cut (Some bytes)) gives = (cut_place names w site gives.place gives.outcome).1
 pool_grows names w (event.Cut site) (deed.Whole bytes) gives = absurd gives
-pool_grows names w (event.Whole site) (deed.Asked told a) gives = absurd gives
+pool_grows names w (event.Whole site) (deed.Asked reported a) gives = absurd gives
 pool_grows names w (event.Whole site) (deed.Took bytes) gives = absurd gives
 pool_grows names w (event.Whole site) (deed.Cut made) gives = absurd gives
-pool_grows names w (event.Whole site) (deed.Whole bytes) gives = (whole_place names w site gives.place gives.told).1
+pool_grows names w (event.Whole site) (deed.Whole bytes) gives = (whole_place names w site gives.place gives.outcome).1
 
 -- ---- what a line gives
 
@@ -156,13 +156,13 @@ message_gives : (place : ScriptSites) (w : World) (number : ℕ) (line : List �
     → reaction trusted_session ((codes "Action", name) ∷ command_fields c) ≡ waits action paused c
     → (happens place.names w (event.Ask site (ask.Command c))).1 ≡ outcome.Answered a
     → GivesLine place w number line (event.Ask site (ask.Command c)) (reply_to action paused a)
-message_gives place w number line site c action paused name a sense is asks told =
+message_gives place w number line site c action paused name a sense is asks reported =
     let m = (codes "Action", name) ∷ command_fields c in
     record {
       given = given_by_message place w site m;
       gives = subst (λ s. SenseGives place w number s (given_by_message place w site m)) (sym sense) (inl (m, is, refl));
       after = ap (λ r. (given_by_reaction place w site r).after) asks;
-      text_is = ap (λ r. (given_by_reaction place w site r).text) asks ∙ ap (waited_reply (record { action = action; says_yes = paused; id = [] })) told;
+      text_is = ap (λ r. (given_by_reaction place w site r).text) asks ∙ ap (waited_reply (record { action = action; says_yes = paused; id = [] })) reported;
       understood = ap (λ r. (given_by_reaction place w site r).understood) asks;
     }
 
@@ -170,13 +170,13 @@ message_gives place w number line site c action paused name a sense is asks told
 count_gives : (place : ScriptSites) (w : World) (number : ℕ) (line : List ℕ) (site : ℕ) (calls : Calls) (queue : List ℕ) (a : Answer) → IsName queue
     → sense_of place.sites line ≡ Count site calls queue → (happens place.names w (event.Ask site (count_of calls queue))).1 ≡ outcome.Answered a
     → GivesLine place w number line (event.Ask site (count_of calls queue)) (answer_text a)
-count_gives place w number line site calls queue a is sense told =
+count_gives place w number line site calls queue a is sense reported =
     let given = given_by_event place w (event.Ask site (count_of calls queue)) in
     record {
       given = given;
       gives = subst (λ s. SenseGives place w number s given) (sym sense) (sym (ap (given_by_count place w site calls) (name_read queue is)));
       after = refl;
-      text_is = ap outcome_text told;
+      text_is = ap outcome_text reported;
       understood = refl;
     }
 
@@ -184,51 +184,51 @@ count_gives place w number line site calls queue a is sense told =
 command_gives : (place : ScriptSites) (w : World) (number site : ℕ) (c : Command) (a : Answer) → list_all is_plain (texts_of c) ≡ true → IsCommand c
     → site < place.sites → place.sites ≤ 64 → (happens place.names w (event.Ask site (ask.Command c))).1 ≡ outcome.Answered a
     → GivesLine place w number (event_line (event.Ask site (ask.Command c))) (event.Ask site (ask.Command c)) (answer_shown c a)
-command_gives place w number site (Add q i n paused label) a plain is there few told =
+command_gives place w number site (Add q i n paused label) a plain is there few reported =
     let c = Add q i n paused label in
     let e = event.Ask site (ask.Command c) in
     message_gives place w number (event_line e) site c QueueAdd paused (codes "QueueAdd") a (line_sense place.sites e plain there few)
     (fields_message (codes "QueueAdd") (command_fields c) (record { field_is = refl; bars = refl; clean = refl; some = omega arith; fits = omega arith }) (command_fields_are c is plain) (few_fields c))
-    (add_asks q i n paused label.name label.state is) told
-command_gives place w number site (Remove q i) a plain is there few told =
+    (add_asks q i n paused label.name label.state is) reported
+command_gives place w number site (Remove q i) a plain is there few reported =
     let c = Remove q i in
     let e = event.Ask site (ask.Command c) in
     message_gives place w number (event_line e) site c QueueRemove false (codes "QueueRemove") a (line_sense place.sites e plain there few)
     (fields_message (codes "QueueRemove") (command_fields c) (record { field_is = refl; bars = refl; clean = refl; some = omega arith; fits = omega arith }) (command_fields_are c is plain) (few_fields c))
-    (remove_asks q i is) told
-command_gives place w number site (Pause queue i pause) a plain is there few told =
+    (remove_asks q i is) reported
+command_gives place w number site (Pause queue i pause) a plain is there few reported =
     let c = Pause queue i pause in
     let e = event.Ask site (ask.Command c) in
     message_gives place w number (event_line e) site c QueuePause pause.paused (codes "QueuePause") a (line_sense place.sites e plain there few)
     (fields_message (codes "QueuePause") (command_fields c) (record { field_is = refl; bars = refl; clean = refl; some = omega arith; fits = omega arith }) (command_fields_are c is plain) (few_fields c))
-    (pause_asks queue i pause.paused pause.reason is) told
-command_gives place w number site (Penalty queue i n) a plain is there few told =
+    (pause_asks queue i pause.paused pause.reason is) reported
+command_gives place w number site (Penalty queue i n) a plain is there few reported =
     let c = Penalty queue i n in
     let e = event.Ask site (ask.Command c) in
     message_gives place w number (event_line e) site c QueuePenalty false (codes "QueuePenalty") a (line_sense place.sites e plain there few)
     (fields_message (codes "QueuePenalty") (command_fields c) (record { field_is = refl; bars = refl; clean = refl; some = omega arith; fits = omega arith }) (command_fields_are c is plain) (few_fields c))
-    (penalty_asks queue i n is) told
-command_gives place w number site (RingInUse queue i ring) a plain is there few told =
+    (penalty_asks queue i n is) reported
+command_gives place w number site (RingInUse queue i ring) a plain is there few reported =
     let c = RingInUse queue i ring in
     let e = event.Ask site (ask.Command c) in
     message_gives place w number (event_line e) site c QueueMemberRingInUse false (codes "QueueMemberRingInUse") a (line_sense place.sites e plain there few)
     (fields_message (codes "QueueMemberRingInUse") (command_fields c) (record { field_is = refl; bars = refl; clean = refl; some = omega arith; fits = omega arith }) (command_fields_are c is plain) (few_fields c))
-    (ring_asks queue i ring is) told
-command_gives place w number site (Completed queue) a plain is there few told =
-    count_gives place w number _ site calls.Completed queue a is (line_sense place.sites (event.Ask site (ask.Command (Completed queue))) refl there few) told
-command_gives place w number site (Abandoned queue) a plain is there few told =
-    count_gives place w number _ site calls.Abandoned queue a is (line_sense place.sites (event.Ask site (ask.Command (Abandoned queue))) refl there few) told
+    (ring_asks queue i ring is) reported
+command_gives place w number site (Completed queue) a plain is there few reported =
+    count_gives place w number _ site calls.Completed queue a is (line_sense place.sites (event.Ask site (ask.Command (Completed queue))) refl there few) reported
+command_gives place w number site (Abandoned queue) a plain is there few reported =
+    count_gives place w number _ site calls.Abandoned queue a is (line_sense place.sites (event.Ask site (ask.Command (Abandoned queue))) refl there few) reported
 
 -- the line of a frame's event gives its outcome
 frame_gives : (place : ScriptSites) (w : World) (number : ℕ) (line : List ℕ) (e : Event) (o : Outcome)
     → SenseGives place w number (sense_of place.sites line) (given_by_event place w e) → (happens place.names w e).1 ≡ o → GivesLine place w number line e (outcome_text o)
-frame_gives place w number line e o gives told =
-    record { given = given_by_event place w e; gives = gives; after = refl; text_is = ap outcome_text told; understood = refl }
+frame_gives place w number line e o gives reported =
+    record { given = given_by_event place w e; gives = gives; after = refl; text_is = ap outcome_text reported; understood = refl }
 
 -- the line of an event gives what the deed says that the event gave its site
 pub event_gives : (place : ScriptSites) (w : World) (number : ℕ) (e : Event) (done : StepDeed) → can_say e ≡ true → HasLimits e → site_of e < place.sites → place.sites ≤ 64
     → GivesDeed place.names w e done → GivesLine place w number (event_line e) e (deed_text (length w.pool) done)
-event_gives place w number (event.Ask site (ask.Command c)) (deed.Asked told a) said is there few gives =
+event_gives place w number (event.Ask site (ask.Command c)) (deed.Asked reported a) said is there few gives =
     subst (λ x. GivesLine place w number (event_line (event.Ask site (ask.Command c))) (event.Ask site (ask.Command c)) (deed_text (length w.pool) (deed.Asked x a))) (sym gives.0)
     (command_gives place w number site c a said is.1 there few gives.1)
 event_gives place w number (event.Ask site (ask.Command c)) (deed.Took bytes) said is there few gives = absurd gives
@@ -240,7 +240,7 @@ event_gives place w number (event.Take site entry) (deed.Took bytes) said is the
     let e = event.Take site entry in
     frame_gives place w number (event_line e) e (outcome.Took (Ok tt))
     (subst (λ s. SenseGives place w number s (given_by_event place w e)) (sym (line_sense place.sites e said there few ∙ take_words site entry less)) refl) gives.0
-event_gives place w number (event.Take site entry) (deed.Asked told a) said is there few gives = absurd gives
+event_gives place w number (event.Take site entry) (deed.Asked reported a) said is there few gives = absurd gives
 event_gives place w number (event.Take site entry) (deed.Cut made) said is there few gives = absurd gives
 event_gives place w number (event.Take site entry) (deed.Whole bytes) said is there few gives = absurd gives
 event_gives place w number (event.Cut site) (deed.Cut None) said is there few gives =
@@ -249,18 +249,18 @@ event_gives place w number (event.Cut site) (deed.Cut None) said is there few gi
     (subst (λ s. SenseGives place w number s (given_by_event place w e)) (sym (line_sense place.sites e refl there few)) refl) gives
 event_gives place w number (event.Cut site) (deed.Cut (Some bytes)) said is there few gives =
     let e = event.Cut site in
-    subst (λ n. GivesLine place w number (event_line e) e (entry_text n)) (cut_place place.names w site gives.place gives.told).0
+    subst (λ n. GivesLine place w number (event_line e) e (entry_text n)) (cut_place place.names w site gives.place gives.outcome).0
     (frame_gives place w number (event_line e) e (outcome.Cut (Ok (Some gives.place)))
-    (subst (λ s. SenseGives place w number s (given_by_event place w e)) (sym (line_sense place.sites e refl there few)) refl) gives.told)
-event_gives place w number (event.Cut site) (deed.Asked told a) said is there few gives = absurd gives
+    (subst (λ s. SenseGives place w number s (given_by_event place w e)) (sym (line_sense place.sites e refl there few)) refl) gives.outcome)
+event_gives place w number (event.Cut site) (deed.Asked reported a) said is there few gives = absurd gives
 event_gives place w number (event.Cut site) (deed.Took bytes) said is there few gives = absurd gives
 event_gives place w number (event.Cut site) (deed.Whole bytes) said is there few gives = absurd gives
 event_gives place w number (event.Whole site) (deed.Whole bytes) said is there few gives =
     let e = event.Whole site in
-    subst (λ n. GivesLine place w number (event_line e) e (entry_text n)) (whole_place place.names w site gives.place gives.told).0
+    subst (λ n. GivesLine place w number (event_line e) e (entry_text n)) (whole_place place.names w site gives.place gives.outcome).0
     (frame_gives place w number (event_line e) e (outcome.Cut (Ok (Some gives.place)))
-    (subst (λ s. SenseGives place w number s (given_by_event place w e)) (sym (line_sense place.sites e refl there few)) refl) gives.told)
-event_gives place w number (event.Whole site) (deed.Asked told a) said is there few gives = absurd gives
+    (subst (λ s. SenseGives place w number s (given_by_event place w e)) (sym (line_sense place.sites e refl there few)) refl) gives.outcome)
+event_gives place w number (event.Whole site) (deed.Asked reported a) said is there few gives = absurd gives
 event_gives place w number (event.Whole site) (deed.Took bytes) said is there few gives = absurd gives
 event_gives place w number (event.Whole site) (deed.Cut made) said is there few gives = absurd gives
 

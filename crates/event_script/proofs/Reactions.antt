@@ -185,8 +185,8 @@ pause_by : (m : Fields) (queue : Option (List ℕ)) (i : List ℕ) (paused : Boo
     → reaction_by QueuePause m ≡ waits QueuePause paused (Pause queue i (record { paused = paused; reason = reason }))
 pause_by m queue i paused reason is vq vi vp vr id =
     let says : says_yes (codes "Paused") m ≡ paused = ap (λ v. is_yes (unwrap_or v [])) vp ∙ yes_read paused in
-    let told : text_at (codes "Reason") m ≡ reason = ap (λ v. unwrap_or v []) vr ∙ or_empty reason in
-    let kept : (if says_yes (codes "Paused") m then text_at (codes "Reason") m else []) ≡ reason = (λ k. if says k then told k else []) ∙ reason_kept paused reason is.1.1.none in
+    let reported : text_at (codes "Reason") m ≡ reason = ap (λ v. unwrap_or v []) vr ∙ or_empty reason in
+    let kept : (if says_yes (codes "Paused") m then text_at (codes "Reason") m else []) ≡ reason = (λ k. if says k then reported k else []) ∙ reason_kept paused reason is.1.1.none in
     row_asks QueuePause m (Pause queue i (record { paused = paused; reason = reason })) paused
     (absent_none QueuePause m (ap is_none vi, (ap is_none vp, tt)))
     (unread_none QueuePause m (

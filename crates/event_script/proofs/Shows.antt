@@ -136,7 +136,7 @@ pub script_shows : ((lines : List (List ℕ)) → (journals : List JournalState)
 script_shows one comments are journals es before after unknown few is limits none ran =
     let said = all_said es none limits in
     let each = recursion_from_All IsComment comments are in
-    let told = run_shows journals es (1 + length comments) few is said in
+    let reported = run_shows journals es (1 + length comments) few is said in
     let place = listed_place (length journals) (names_in journals) in
     let w = new_world (length journals) in
     let lines = comments ++ map event_line es in
@@ -144,8 +144,8 @@ script_shows one comments are journals es before after unknown few is limits non
     let same : lines_of ran.script ≡ lines =
     ap lines_of (sym whole) ∙ lines_behind comments (script_of es) each ∙ ap (λ ls. comments ++ ls) (lines_are es said) in
     let gives = subst (λ ls. LinesGive place w 1 ls ran.written.text unknown) same ran.written.is_text in
-    let shown = comments_give place w 1 comments (map event_line es) told.0 each told.1 in
-    let text : ran.written.text ≡ told.0 = (one lines journals).text told.0 ran.written.text 0 unknown shown gives in (
-      (one lines journals).unknown told.0 ran.written.text 0 unknown shown gives,
-      record { text = told.0; shows = told.2; written = ran.written.taken ∙ ap (λ t. before ++ t) text },
+    let shown = comments_give place w 1 comments (map event_line es) reported.0 each reported.1 in
+    let text : ran.written.text ≡ reported.0 = (one lines journals).text reported.0 ran.written.text 0 unknown shown gives in (
+      (one lines journals).unknown reported.0 ran.written.text 0 unknown shown gives,
+      record { text = reported.0; shows = reported.2; written = ran.written.taken ∙ ap (λ t. before ++ t) text },
     )

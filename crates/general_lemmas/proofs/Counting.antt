@@ -115,12 +115,12 @@ module _ {K : Type 0} {R : K → K → Ordering} (o : IsTotalOrder R) (exact : s
   -- a set whose elements have different numbers below n has at most n elements
   pub numbered : (f : K → ℕ) (n : ℕ) (s : set.FinSet R) → ((q : K) → set.contains s q ≡ true → f q < n)
       → ((p q : K) → set.contains s p ≡ true → set.contains s q ≡ true → f p ≡ f q → p ≡ q) → set.len s ≤ n
-  numbered f zero s below tell = at (set.len s) refl
+  numbered f zero s below report = at (set.len s) refl
     where
       at : (k : ℕ) → set.len s ≡ k → set.len s ≤ 0
       at zero e = omega (arith, e)
       at (suc k) e = let x = some_of s k e in let l = below x.0 x.1 in absurd (omega (arith, l))
-  numbered f (suc n) s below tell = by (list_any (λ q. nat_eq (f q) n) (set.items s)) refl (numbered f n)
+  numbered f (suc n) s below report = by (list_any (λ q. nat_eq (f q) n) (set.items s)) refl (numbered f n)
     where
       is_number : (a b : ℕ) → nat_eq a b ≡ true → a ≡ b
       is_number a b h = grind (arith, nat_tests, h)
@@ -138,14 +138,14 @@ module _ {K : Type 0} {R : K → K → Ordering} (o : IsTotalOrder R) (exact : s
           let x = in_any (λ q. nat_eq (f q) n) (set.items s) e in
           let here = of_item s x.0 x.1 in
           let rest = few (set.remove s x.0)
-          (λ q h. let k = kept_parts s x.0 q h in smaller (f q) n (below q k.0) (λ same. k.1 (tell q x.0 k.0 here (same ∙ sym (is_number (f x.0) n x.2)))))
-          (λ p q h l. tell p q (kept_parts s x.0 p h).0 (kept_parts s x.0 q l).0) in
+          (λ q h. let k = kept_parts s x.0 q h in smaller (f q) n (below q k.0) (λ same. k.1 (report q x.0 k.0 here (same ∙ sym (is_number (f x.0) n x.2)))))
+          (λ p q h l. report p q (kept_parts s x.0 p h).0 (kept_parts s x.0 q l).0) in
           let most = at_most_one_less s x.0 in
           omega (arith, rest, most)
       by false e few =
           let rest = few s
           (λ q h. smaller (f q) n (below q h) (λ same. true≢false (sym (any_in (λ x. nat_eq (f x) n) (set.items s) q (item_of s q h) (same_number (f q) n same)) ∙ e)))
-          tell in
+          report in
           omega (arith, rest)
 
 -- what elements that are gone give, at most one each

@@ -37,15 +37,15 @@ pub after : (a b : Dot) → a ≢ b → is_lt (dot_cmp a b) ≡ false → is_lt 
 after = rising.after dot_cmp dots_total dots_exact
 
 -- the result of the program's test of two dots
-pub told_apart : (a d : Dot) (b : Bool) → b ≡ not (nat_eq a.site d.site && nat_eq a.count d.count) → b ≡ true → d ≢ a
-told_apart a d b e h same = split (eq_by_cmp dot_cmp d a) (same_tied d a same) (sym h ∙ e ∙ ap not (sym (same_dot d a)))
+pub tested_other : (a d : Dot) (b : Bool) → b ≡ not (nat_eq a.site d.site && nat_eq a.count d.count) → b ≡ true → d ≢ a
+tested_other a d b e h same = split (eq_by_cmp dot_cmp d a) (same_tied d a same) (sym h ∙ e ∙ ap not (sym (same_dot d a)))
   where
     split : (p : Bool) → p ≡ true → true ≡ not p → ⊥
     split true k m = (cc)
     split false k m = (cc)
 
-pub told_same : (a d : Dot) (b : Bool) → b ≡ not (nat_eq a.site d.site && nat_eq a.count d.count) → b ≡ false → d ≡ a
-told_same a d b e h = one_dot d a (split (eq_by_cmp dot_cmp d a) (sym h ∙ e ∙ ap not (sym (same_dot d a))))
+pub tested_same : (a d : Dot) (b : Bool) → b ≡ not (nat_eq a.site d.site && nat_eq a.count d.count) → b ≡ false → d ≡ a
+tested_same a d b e h = one_dot d a (split (eq_by_cmp dot_cmp d a) (sym h ∙ e ∙ ap not (sym (same_dot d a))))
   where
     split : (p : Bool) → false ≡ not p → p ≡ true
     split true m = refl

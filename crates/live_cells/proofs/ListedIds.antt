@@ -52,31 +52,31 @@ module _ (held : CellMap) (ids : List Id) (a : AreHeld held ids) where
       ∙ ap Some (sym (get_or-map listing (cells_at held ids) k (of_entry l) l (let n = length_given (λ q. maps.get held q) ids a in omega arith)))
 
   -- a test of the cell of an id, by its entry
-  abbrev pub told : (Listed → Bool) → Id → Bool
-  told p id = option_map_or (λ c. p (listing c)) (maps.get held id) false
+  abbrev pub reported : (Listed → Bool) → Id → Bool
+  reported p id = option_map_or (λ c. p (listing c)) (maps.get held id) false
 
-  pub told_there : (p : Listed → Bool) (k : ℕ) (id : Id) (l : Listed) → k < length ids → told p (get_or ids k id) ≡ p (get_or listed k l)
-  told_there p k id l w = by_entry (maps.get held (get_or ids k id)) ∙ ap (λ o. option_map_or p o false) (entry_there k id l w)
+  pub reported_there : (p : Listed → Bool) (k : ℕ) (id : Id) (l : Listed) → k < length ids → reported p (get_or ids k id) ≡ p (get_or listed k l)
+  reported_there p k id l w = by_entry (maps.get held (get_or ids k id)) ∙ ap (λ o. option_map_or p o false) (entry_there k id l w)
     where
       by_entry : (o : Option LiveDot) → option_map_or (λ c. p (listing c)) o false ≡ option_map_or p (option_map listing o) false
       by_entry None = refl
       by_entry (Some c) = refl
 
-  pub partitioned_ids : (p : Listed → Bool) → IsPartitionedBy p listed → IsPartitionedBy (told p) ids
-  partitioned_ids p h i j id l w t = told_there p i id no_entry (omega arith) ∙ h i j no_entry l (omega (arith, as_long)) (sym (told_there p j id no_entry w) ∙ t)
+  pub partitioned_ids : (p : Listed → Bool) → IsPartitionedBy p listed → IsPartitionedBy (reported p) ids
+  partitioned_ids p h i j id l w t = reported_there p i id no_entry (omega arith) ∙ h i j no_entry l (omega (arith, as_long)) (sym (reported_there p j id no_entry w) ∙ t)
 
-  pub told_entries : (p : Listed → Bool) (b : Bool) (low high : ℕ) → high ≤ length ids → AllWithin (λ id. told p id ≡ b) ids low high → AllWithin (λ l. p l ≡ b) listed low high
-  told_entries p b low high w h k l lo hi = sym (told_there p k (id_of 0 0) l (omega arith)) ∙ h k (id_of 0 0) lo hi
+  pub reported_entries : (p : Listed → Bool) (b : Bool) (low high : ℕ) → high ≤ length ids → AllWithin (λ id. reported p id ≡ b) ids low high → AllWithin (λ l. p l ≡ b) listed low high
+  reported_entries p b low high w h k l lo hi = sym (reported_there p k (id_of 0 0) l (omega arith)) ∙ h k (id_of 0 0) lo hi
 
   -- the ids before an entry come first
-  pub before_first : (l : Listed) → Rises listed → IsPartitionedBy (told (λ x. is_lt (listed_cmp x l))) ids
+  pub before_first : (l : Listed) → Rises listed → IsPartitionedBy (reported (λ x. is_lt (listed_cmp x l))) ids
   before_first l r = partitioned_ids (λ x. is_lt (listed_cmp x l)) (rising.partitioned listed_cmp listed_total listed_exact (λ x. x) (λ x. tt) l listed r)
 
-  pub place_for : (l : Listed) (i : ℕ) → i ≤ length ids → AllWithin (λ id. told (λ x. is_lt (listed_cmp x l)) id ≡ true) ids 0 i → AllWithin (λ id. told (λ x. is_lt (listed_cmp x l)) id ≡ false) ids i (length ids) → IsPlaceFor listed l i
+  pub place_for : (l : Listed) (i : ℕ) → i ≤ length ids → AllWithin (λ id. reported (λ x. is_lt (listed_cmp x l)) id ≡ true) ids 0 i → AllWithin (λ id. reported (λ x. is_lt (listed_cmp x l)) id ≡ false) ids i (length ids) → IsPlaceFor listed l i
   place_for l i w b p = record {
     within = omega (arith, as_long);
-    before = told_entries (λ x. is_lt (listed_cmp x l)) true 0 i w b;
-    past = λ k x lo hi. told_entries (λ x. is_lt (listed_cmp x l)) false i (length ids) (omega arith) p k x lo (omega (arith, as_long));
+    before = reported_entries (λ x. is_lt (listed_cmp x l)) true 0 i w b;
+    past = λ k x lo hi. reported_entries (λ x. is_lt (listed_cmp x l)) false i (length ids) (omega arith) p k x lo (omega (arith, as_long));
   }
 
   -- some ids in a row, and their entries
@@ -89,5 +89,5 @@ module _ (held : CellMap) (ids : List Id) (a : AreHeld held ids) where
       ∙ sym (take-map listing n (drop i (cells_at held ids))) ∙ ap (take n) (sym (drop-map listing i (cells_at held ids)))
 
   -- the places of a member's entries, by a test of the cells
-  pub parts_entries : (p : Listed → Bool) (i : ℕ) → i ≤ length ids → IsPartitionPoint (λ id. told p id ≡ true) (λ id. told p id ≡ false) ids i → IsPartitionPoint (λ l. p l ≡ true) (λ l. p l ≡ false) listed i
-  parts_entries p i w parts = (told_entries p true 0 i w parts.0, λ k x lo hi. told_entries p false i (length ids) (omega arith) parts.1 k x lo (omega (arith, as_long)))
+  pub parts_entries : (p : Listed → Bool) (i : ℕ) → i ≤ length ids → IsPartitionPoint (λ id. reported p id ≡ true) (λ id. reported p id ≡ false) ids i → IsPartitionPoint (λ l. p l ≡ true) (λ l. p l ≡ false) listed i
+  parts_entries p i w parts = (reported_entries p true 0 i w parts.0, λ k x lo hi. reported_entries p false i (length ids) (omega arith) parts.1 k x lo (omega (arith, as_long)))

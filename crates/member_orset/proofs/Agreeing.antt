@@ -7,7 +7,7 @@ use Rattle.dots.specs.Values.{Dot}
 use Rattle.operations.specs.Registers.{RegistersAgree, Entry, RegistersInConflict}
 use Rattle.operations.specs.Conditions.{Condition, ConditionsAgree, Dead, DotFields, FieldsAgree, FieldsInConflict, Live}
 use Rattle.member_orset.specs.Members.{SetsAgree, SetsInConflict, ConditionsInConflict, Members, condition_at, condition_of}
-use Rattle.member_orset.specs.Joining.{IsTold, HoldingsAgree, HoldingsInConflict}
+use Rattle.member_orset.specs.Joining.{DecidesAgreement, HoldingsAgree, HoldingsInConflict}
 use Rattle.dots.specs.Orders.{dot_cmp}
 use Rattle.dots.proofs.DotOrder.{dots_total}
 use Rattle.general_lemmas.proofs.MapEntries.{entry_in, entry_is}
@@ -59,12 +59,12 @@ conflict_at None h a b c = absurd c
 conflict_at (Some g) h a b c = c
 
 -- the answer by the entries is the answer by the conditions
-pub told : (s t : Members) (r : Bool) → IsTold s.live (map.entries t.live) r → (IsTrue r ↔ SetsAgree s t) × (IsFalse r ↔ SetsInConflict s t)
-told s t true is =
+pub reported : (s t : Members) (r : Bool) → DecidesAgreement s.live (map.entries t.live) r → (IsTrue r ↔ SetsAgree s t) × (IsFalse r ↔ SetsInConflict s t)
+reported s t true is =
     let agree : SetsAgree s t = λ q. agree_at (map.get s.live q) (map.get t.live q) (set.contains s.known q) (set.contains t.known q) (λ h e.
     let i = entry_in dot_cmp dots_total one_dot t.live q h e in subst (λ (x : Dot × Holding). HoldingsAgree (map.get s.live x.0) x.1) i.2 (is i.0 (q, h) i.1)) in
     ((λ x. agree, λ x. refl), (λ x. absurd (cc x), λ x. absurd (conditions_apart (condition_of s x.dot) (condition_of t x.dot) (agree x.dot) x.conflict)))
-told s t false is =
+reported s t false is =
     let q = is.entry.0 in
     let there : map.get t.live q ≡ Some is.entry.1 = entry_is dot_cmp dots_total t.live is.entry is.here in
     let conflict : ConditionsInConflict (condition_of s q) (condition_of t q) =

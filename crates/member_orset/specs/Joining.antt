@@ -40,9 +40,9 @@ pub record Clash (live : map.FinMap dot_cmp Holding) (entries : List (Dot × Hol
   pub conflict : HoldingsInConflict (map.get live entry.0) entry.1
 
 -- whether all entries agree with what is live of their dots
-abbrev pub IsTold : map.FinMap dot_cmp Holding → List (Dot × Holding) → Bool → Type 0
-IsTold live entries true = EntriesAgree live entries
-IsTold live entries false = Clash live entries
+abbrev pub DecidesAgreement : map.FinMap dot_cmp Holding → List (Dot × Holding) → Bool → Type 0
+DecidesAgreement live entries true = EntriesAgree live entries
+DecidesAgreement live entries false = Clash live entries
 
 -- whether a dot is in a run and not live on the other side
 abbrev pub dead_in_run : Run → map.FinMap dot_cmp Holding → Dot → Bool

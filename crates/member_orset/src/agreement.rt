@@ -3,7 +3,7 @@ ghost use Rattle.std.specs.Prelude.{◌≡◌, ◌↔◌, IsTrue, IsFalse};
 ghost use Rattle.std.specs.Option.{option_map};
 ghost use Rattle.std.specs.FinMap as map;
 ghost use Rattle.live_cells.specs.Holdings.{cell_read};
-ghost use Rattle.member_orset.specs.Joining.{HoldingsAgree, HoldingsInConflict, IsTold};
+ghost use Rattle.member_orset.specs.Joining.{HoldingsAgree, HoldingsInConflict, DecidesAgreement};
 
 use dots::Member;
 use live_cells::{Cell, LAST_GENERATION, LiveCells};
@@ -36,7 +36,7 @@ pub(crate) fn cells_agree(
     cells: &LiveCells<LAST_GENERATION>,
     others: &LiveCells<LAST_GENERATION>,
 ) -> bool
-    ensures { IsTold cells.now.live (map.entries others.now.live) result }
+    ensures { DecidesAgreement cells.now.live (map.entries others.now.live) result }
 {
     let mut here = cells.cursor();
     for (dot, cell) in others.iter() {

@@ -49,11 +49,11 @@ module _ (names : List (List ℕ)) (k : Knowledge) where
 -- ---- the meaning of a change
 
 -- a change is refused for its queue, or for its members, or the limits decide on the operation that it asks for
-data IsTold (site : ℕ) (names : List (List ℕ)) (k buffer : Knowledge) (change : Change) (meant : Meaning) : Type 0 where
-  Unlisted : meant ≡ Refused NoSuchQueue → IsUnlisted names (queue_named change) → IsTold site names k buffer change meant
-  Again : meant ≡ Refused AlreadyThere → IsAddedAgain names k change → IsTold site names k buffer change meant
-  ForNone : meant ≡ Refused NotThere → IsForNone names k change → IsTold site names k buffer change meant
-  Asked : (o : Operation) → IsAskedFor site names k change o → meant ≡ within_limits (site_view site k) (site_view site buffer) o → IsTold site names k buffer change meant
+data DecidesAgreement (site : ℕ) (names : List (List ℕ)) (k buffer : Knowledge) (change : Change) (meant : Meaning) : Type 0 where
+  Unlisted : meant ≡ Refused NoSuchQueue → IsUnlisted names (queue_named change) → DecidesAgreement site names k buffer change meant
+  Again : meant ≡ Refused AlreadyThere → IsAddedAgain names k change → DecidesAgreement site names k buffer change meant
+  ForNone : meant ≡ Refused NotThere → IsForNone names k change → DecidesAgreement site names k buffer change meant
+  Asked : (o : Operation) → IsAskedFor site names k change o → meant ≡ within_limits (site_view site k) (site_view site buffer) o → DecidesAgreement site names k buffer change meant
 
 module _ (site : ℕ) (names : List (List ℕ)) (k buffer : Knowledge) where
   -- what is read of the knowledge
@@ -76,12 +76,12 @@ module _ (site : ℕ) (names : List (List ℕ)) (k buffer : Knowledge) where
     one_there p ps some = let t = seen_there k place interface p ps some in record { member = t.0; is_of = from t.0 t.1; row = t.2 }
 
     -- what is seen decides on a remove and on a setting
-    told_present : (change : Change) (o : Operation) → operation_asked site names r change ≡ Some o → (IsUnlisted names (queue_named change) → ⊥) → (IsUnlisted names queue → ⊥)
+    reported_present : (change : Change) (o : Operation) → operation_asked site names r change ≡ Some o → (IsUnlisted names (queue_named change) → ⊥) → (IsUnlisted names queue → ⊥)
         → (IsAddedAgain names k change → ⊥) → (IsNotThere names k queue interface → IsForNone names k change) → (IsForNone names k change → IsNotThere names k queue interface)
-        → IsTold site names k buffer change (where_present (dots_seen r.dots place interface) (within_limits r b o))
-    told_present change o asked listed known not_again none some = by (dots_seen r.dots place interface) refl
+        → DecidesAgreement site names k buffer change (where_present (dots_seen r.dots place interface) (within_limits r b o))
+    reported_present change o asked listed known not_again none some = by (dots_seen r.dots place interface) refl
       where
-        by : (ps : List (Dot × Member)) → dots_seen r.dots place interface ≡ ps → IsTold site names k buffer change (where_present ps (within_limits r b o))
+        by : (ps : List (Dot × Member)) → dots_seen r.dots place interface ≡ ps → DecidesAgreement site names k buffer change (where_present ps (within_limits r b o))
         by [] e = ForNone refl (none (record { listed = known; none = none_there e }))
         by (p ∷ ps) e = Asked o (record { asked = asked; listed = listed; not_again = not_again; for_some = λ h. (some h).none (one_there p ps e) }) refl
 
@@ -95,24 +95,24 @@ module _ (site : ℕ) (names : List (List ℕ)) (k buffer : Knowledge) where
     added q = add_at site r (member_at q interface) penalty paused label
 
     -- what is seen decides on an add
-    told_absent : (q : ℕ) → number_of names queue ≡ Some q → (ps : List (Dot × Member)) → dots_seen r.dots (Some q) interface ≡ ps
-        → IsTold site names k buffer (AddMember queue interface penalty paused label) (where_absent ps (within_limits r b (added q)))
-    told_absent q e [] none = Asked (added q) (record {
+    reported_absent : (q : ℕ) → number_of names queue ≡ Some q → (ps : List (Dot × Member)) → dots_seen r.dots (Some q) interface ≡ ps
+        → DecidesAgreement site names k buffer (AddMember queue interface penalty paused label) (where_absent ps (within_limits r b (added q)))
+    reported_absent q e [] none = Asked (added q) (record {
       asked = ap (option_map added) e;
       listed = listed_at queue q e;
       not_again = none_there (Some queue) (Some q) interface (to_number names queue q interface e) (from_number names queue q interface e) none;
       for_some = λ h. h;
     }) refl
-    told_absent q e (p ∷ ps) some = Again refl (one_there (Some queue) (Some q) interface (to_number names queue q interface e) (from_number names queue q interface e) p ps some)
+    reported_absent q e (p ∷ ps) some = Again refl (one_there (Some queue) (Some q) interface (to_number names queue q interface e) (from_number names queue q interface e) p ps some)
 
     -- the meaning of an add
-    told_add : IsTold site names k buffer (AddMember queue interface penalty paused label) (meaning site names r b (AddMember queue interface penalty paused label))
-    told_add = by (number_of names queue) refl
+    reported_add : DecidesAgreement site names k buffer (AddMember queue interface penalty paused label) (meaning site names r b (AddMember queue interface penalty paused label))
+    reported_add = by (number_of names queue) refl
       where
         by : (x : Option ℕ) → number_of names queue ≡ x
-            → IsTold site names k buffer (AddMember queue interface penalty paused label) (in_queue x (λ q. where_absent (dots_seen r.dots (Some q) interface) (within_limits r b (added q))))
+            → DecidesAgreement site names k buffer (AddMember queue interface penalty paused label) (in_queue x (λ q. where_absent (dots_seen r.dots (Some q) interface) (within_limits r b (added q))))
         by None e = Unlisted refl e
-        by (Some q) e = told_absent q e (dots_seen r.dots (Some q) interface) refl
+        by (Some q) e = reported_absent q e (dots_seen r.dots (Some q) interface) refl
 
   -- a remove, in the queue of a number
   module _ (queue interface : List ℕ) where
@@ -120,14 +120,14 @@ module _ (site : ℕ) (names : List (List ℕ)) (k buffer : Knowledge) where
     removed q = remove_of (dots_seen r.dots (Some q) interface)
 
     -- the meaning of a remove
-    told_remove : IsTold site names k buffer (RemoveMember queue interface) (meaning site names r b (RemoveMember queue interface))
-    told_remove = by (number_of names queue) refl
+    reported_remove : DecidesAgreement site names k buffer (RemoveMember queue interface) (meaning site names r b (RemoveMember queue interface))
+    reported_remove = by (number_of names queue) refl
       where
         by : (x : Option ℕ) → number_of names queue ≡ x
-            → IsTold site names k buffer (RemoveMember queue interface) (in_queue x (λ q. where_present (dots_seen r.dots (Some q) interface) (within_limits r b (removed q))))
+            → DecidesAgreement site names k buffer (RemoveMember queue interface) (in_queue x (λ q. where_present (dots_seen r.dots (Some q) interface) (within_limits r b (removed q))))
         by None e = Unlisted refl e
         by (Some q) e =
-            told_present (Some queue) (Some q) interface (to_number names queue q interface e) (from_number names queue q interface e) (RemoveMember queue interface) (removed q)
+            reported_present (Some queue) (Some q) interface (to_number names queue q interface e) (from_number names queue q interface e) (RemoveMember queue interface) (removed q)
             (ap (option_map removed) e) (listed_at queue q e) (listed_at queue q e) (λ h. h) (λ h. h) (λ h. h)
 
   -- a setting, in the queue of a number
@@ -136,14 +136,14 @@ module _ (site : ℕ) (names : List (List ℕ)) (k buffer : Knowledge) where
     written q = write_at site r setting (dots_seen r.dots (Some q) interface)
 
     -- the meaning of a setting in one queue
-    told_set : IsTold site names k buffer (SetField (Some queue) interface setting) (meaning site names r b (SetField (Some queue) interface setting))
-    told_set = by (number_of names queue) refl
+    reported_set : DecidesAgreement site names k buffer (SetField (Some queue) interface setting) (meaning site names r b (SetField (Some queue) interface setting))
+    reported_set = by (number_of names queue) refl
       where
         by : (x : Option ℕ) → number_of names queue ≡ x
-            → IsTold site names k buffer (SetField (Some queue) interface setting) (in_queue x (λ q. where_present (dots_seen r.dots (Some q) interface) (within_limits r b (written q))))
+            → DecidesAgreement site names k buffer (SetField (Some queue) interface setting) (in_queue x (λ q. where_present (dots_seen r.dots (Some q) interface) (within_limits r b (written q))))
         by None e = Unlisted refl e
         by (Some q) e =
-            told_present (Some queue) (Some q) interface (to_number names queue q interface e) (from_number names queue q interface e) (SetField (Some queue) interface setting) (written q)
+            reported_present (Some queue) (Some q) interface (to_number names queue q interface e) (from_number names queue q interface e) (SetField (Some queue) interface setting) (written q)
             (ap (option_map written) e) (listed_at queue q e) (listed_at queue q e) (λ h. h) (λ h. h) (λ h. h)
 
   -- a count of a call, in the queue of a number
@@ -152,22 +152,22 @@ module _ (site : ℕ) (names : List (List ℕ)) (k buffer : Knowledge) where
     counted q = count_at site r q calls
 
     -- the meaning of a call
-    told_count : IsTold site names k buffer (CountCall queue calls) (meaning site names r b (CountCall queue calls))
-    told_count = by (number_of names queue) refl
+    reported_count : DecidesAgreement site names k buffer (CountCall queue calls) (meaning site names r b (CountCall queue calls))
+    reported_count = by (number_of names queue) refl
       where
-        by : (x : Option ℕ) → number_of names queue ≡ x → IsTold site names k buffer (CountCall queue calls) (in_queue x (λ q. within_limits r b (counted q)))
+        by : (x : Option ℕ) → number_of names queue ≡ x → DecidesAgreement site names k buffer (CountCall queue calls) (in_queue x (λ q. within_limits r b (counted q)))
         by None e = Unlisted refl e
         by (Some q) e = Asked (counted q) (record { asked = ap (option_map counted) e; listed = listed_at queue q e; not_again = λ h. h; for_some = λ h. h }) refl
 
   -- the meaning of each change
-  told : (change : Change) → IsTold site names k buffer change (meaning site names r b change)
-  told (AddMember queue interface penalty paused label) = told_add queue interface penalty paused label
-  told (RemoveMember queue interface) = told_remove queue interface
-  told (SetField None interface setting) =
-      told_present None None interface (λ member is. is) (λ member at. at) (SetField None interface setting) (write_at site r setting (dots_seen r.dots None interface)) refl (λ h. h) (λ h. h) (λ h. h)
+  reported : (change : Change) → DecidesAgreement site names k buffer change (meaning site names r b change)
+  reported (AddMember queue interface penalty paused label) = reported_add queue interface penalty paused label
+  reported (RemoveMember queue interface) = reported_remove queue interface
+  reported (SetField None interface setting) =
+      reported_present None None interface (λ member is. is) (λ member at. at) (SetField None interface setting) (write_at site r setting (dots_seen r.dots None interface)) refl (λ h. h) (λ h. h) (λ h. h)
       (λ h. h) (λ h. h)
-  told (SetField (Some queue) interface setting) = told_set queue interface setting
-  told (CountCall queue calls) = told_count queue calls
+  reported (SetField (Some queue) interface setting) = reported_set queue interface setting
+  reported (CountCall queue calls) = reported_count queue calls
 
   -- ---- the limits
 
@@ -202,48 +202,48 @@ module _ (site : ℕ) (names : List (List ℕ)) (k buffer : Knowledge) where
         by false false false false false p q m n u = record { asked = asked; fits = fits_all o p q m; numbers = n; total = u }
 
     -- the meaning of a change has its cause
-    told_caused : (meant : Meaning) → IsTold site names k buffer change meant → IsCaused site names k buffer change meant
-    told_caused meant (Unlisted e unlisted) = subst (IsCaused site names k buffer change) (sym e) unlisted
-    told_caused meant (Again e again) = subst (IsCaused site names k buffer change) (sym e) again
-    told_caused meant (ForNone e none) = subst (IsCaused site names k buffer change) (sym e) none
-    told_caused meant (Asked o asked e) = subst (IsCaused site names k buffer change) (sym e) (limits_caused o asked)
+    reported_caused : (meant : Meaning) → DecidesAgreement site names k buffer change meant → IsCaused site names k buffer change meant
+    reported_caused meant (Unlisted e unlisted) = subst (IsCaused site names k buffer change) (sym e) unlisted
+    reported_caused meant (Again e again) = subst (IsCaused site names k buffer change) (sym e) again
+    reported_caused meant (ForNone e none) = subst (IsCaused site names k buffer change) (sym e) none
+    reported_caused meant (Asked o asked e) = subst (IsCaused site names k buffer change) (sym e) (limits_caused o asked)
 
     module _ (meant : Meaning) where
       -- where an operation is asked for the limits decide
-      asked_told : (o : Operation) → IsAskedFor site names k change o → IsTold site names k buffer change meant → meant ≡ within_limits r b o
-      asked_told o asked (Unlisted e unlisted) = absurd (asked.listed unlisted)
-      asked_told o asked (Again e again) = absurd (asked.not_again again)
-      asked_told o asked (ForNone e none) = absurd (asked.for_some none)
-      asked_told o asked (Asked p also e) = e ∙ ap (within_limits r b) (one (sym also.asked ∙ asked.asked))
+      asked_reported : (o : Operation) → IsAskedFor site names k change o → DecidesAgreement site names k buffer change meant → meant ≡ within_limits r b o
+      asked_reported o asked (Unlisted e unlisted) = absurd (asked.listed unlisted)
+      asked_reported o asked (Again e again) = absurd (asked.not_again again)
+      asked_reported o asked (ForNone e none) = absurd (asked.for_some none)
+      asked_reported o asked (Asked p also e) = e ∙ ap (within_limits r b) (one (sym also.asked ∙ asked.asked))
         where
           one : Some p ≡ Some o → p ≡ o
           one h = cc
 
       -- what has the cause of a meaning is the meaning of the change
-      caused_told : (other : Meaning) → IsTold site names k buffer change meant → IsCaused site names k buffer change other → meant ≡ other
-      caused_told (Refused NoSuchQueue) (Unlisted e unlisted) h = e
-      caused_told (Refused NoSuchQueue) (Again e again) h = absurd (again_listed names k change again h)
-      caused_told (Refused NoSuchQueue) (ForNone e none) h = absurd (none_listed names k change none h)
-      caused_told (Refused NoSuchQueue) (Asked o asked e) h = absurd (asked.listed h)
-      caused_told (Refused AlreadyThere) (Unlisted e unlisted) h = absurd (again_listed names k change h unlisted)
-      caused_told (Refused AlreadyThere) (Again e again) h = e
-      caused_told (Refused AlreadyThere) (ForNone e none) h = absurd (again_none names k change h none)
-      caused_told (Refused AlreadyThere) (Asked o asked e) h = absurd (asked.not_again h)
-      caused_told (Refused NotThere) (Unlisted e unlisted) h = absurd (none_listed names k change h unlisted)
-      caused_told (Refused NotThere) (Again e again) h = absurd (again_none names k change again h)
-      caused_told (Refused NotThere) (ForNone e none) h = e
-      caused_told (Refused NotThere) (Asked o asked e) h = absurd (asked.for_some h)
-      caused_told (Refused MembersFull) is h = asked_told h.operation h.asked is ∙ full_means r b h.operation h.too_much
-      caused_told (Refused Exhausted) is h =
-          let o = h.operation in asked_told o h.asked is ∙ exhausted_means r b o (fits_known o h.fits) (fits_buffer o h.fits) (fits_alone o h.fits) h.exhausted
-      caused_told (Refused TotalFull) is h =
-          let o = h.operation in asked_told o h.asked is ∙ total_means r b o (fits_known o h.fits) (fits_buffer o h.fits) (fits_alone o h.fits) h.numbers h.past_total
-      caused_told (Refused Memory) is h = absurd h
-      caused_told (Makes o) is h = asked_told o h.asked is ∙ makes_it r b o (fits_known o h.fits) (fits_buffer o h.fits) (fits_alone o h.fits) h.numbers h.total
+      caused_reported : (other : Meaning) → DecidesAgreement site names k buffer change meant → IsCaused site names k buffer change other → meant ≡ other
+      caused_reported (Refused NoSuchQueue) (Unlisted e unlisted) h = e
+      caused_reported (Refused NoSuchQueue) (Again e again) h = absurd (again_listed names k change again h)
+      caused_reported (Refused NoSuchQueue) (ForNone e none) h = absurd (none_listed names k change none h)
+      caused_reported (Refused NoSuchQueue) (Asked o asked e) h = absurd (asked.listed h)
+      caused_reported (Refused AlreadyThere) (Unlisted e unlisted) h = absurd (again_listed names k change h unlisted)
+      caused_reported (Refused AlreadyThere) (Again e again) h = e
+      caused_reported (Refused AlreadyThere) (ForNone e none) h = absurd (again_none names k change h none)
+      caused_reported (Refused AlreadyThere) (Asked o asked e) h = absurd (asked.not_again h)
+      caused_reported (Refused NotThere) (Unlisted e unlisted) h = absurd (none_listed names k change h unlisted)
+      caused_reported (Refused NotThere) (Again e again) h = absurd (again_none names k change again h)
+      caused_reported (Refused NotThere) (ForNone e none) h = e
+      caused_reported (Refused NotThere) (Asked o asked e) h = absurd (asked.for_some h)
+      caused_reported (Refused MembersFull) is h = asked_reported h.operation h.asked is ∙ full_means r b h.operation h.too_much
+      caused_reported (Refused Exhausted) is h =
+          let o = h.operation in asked_reported o h.asked is ∙ exhausted_means r b o (fits_known o h.fits) (fits_buffer o h.fits) (fits_alone o h.fits) h.exhausted
+      caused_reported (Refused TotalFull) is h =
+          let o = h.operation in asked_reported o h.asked is ∙ total_means r b o (fits_known o h.fits) (fits_buffer o h.fits) (fits_alone o h.fits) h.numbers h.past_total
+      caused_reported (Refused Memory) is h = absurd h
+      caused_reported (Makes o) is h = asked_reported o h.asked is ∙ makes_it r b o (fits_known o h.fits) (fits_buffer o h.fits) (fits_alone o h.fits) h.numbers h.total
 
   -- a change means just what has its cause
   pub means_caused : (change : Change) (meant : Meaning) → (meaning site names r b change ≡ meant) ↔ IsCaused site names k buffer change meant
   means_caused change meant = (
-    λ e. subst (IsCaused site names k buffer change) e (told_caused change (meaning site names r b change) (told change)),
-    λ h. caused_told change (meaning site names r b change) meant (told change) h,
+    λ e. subst (IsCaused site names k buffer change) e (reported_caused change (meaning site names r b change) (reported change)),
+    λ h. caused_reported change (meaning site names r b change) meant (reported change) h,
   )

@@ -153,20 +153,20 @@ pub first_holds : {A B : Type 0} (b : Bool) → A → b ≡ true → IsTrue b �
 first_holds b a h = (λ t. inl a, λ either. h)
 
 -- the second of two tests decides both if the first fails
-pub second_tells : {A B : Type 0} (b : Bool) → (A → ⊥) → (IsTrue b ↔ B) → IsTrue b ↔ (A ⊎ B)
-second_tells b not_first tells = (λ t. inr (tells.0 t), λ either. elim either [ inl a ↦ absurd (not_first a) | inr r ↦ tells.1 r ])
+pub second_reports : {A B : Type 0} (b : Bool) → (A → ⊥) → (IsTrue b ↔ B) → IsTrue b ↔ (A ⊎ B)
+second_reports b not_first reports = (λ t. inr (reports.0 t), λ either. elim either [ inl a ↦ absurd (not_first a) | inr r ↦ reports.1 r ])
 
 -- what a test that failed asks isn't so
 pub failed : {A : Type 0} (b : Bool) → (IsTrue b ↔ A) → b ≡ false → A → ⊥
-failed b tells fails a = let t = tells.1 a in cc
+failed b reports fails a = let t = reports.1 a in cc
 
 -- a test of members at equal numbers and equal members
 pub member_test : (b : Bool) (site count time p q r : ℕ) (m n : Members) → site ≡ p → count ≡ q → time ≡ r → m ≡ n → (IsTrue b ↔ HasMemberPast site count time m) → IsTrue b ↔ HasMemberPast p q r n
-member_test b site count time p q r m n e f g h tells =
+member_test b site count time p q r m n e f g h reports =
     subst (λ x. IsTrue b ↔ HasMemberPast p q r x) h (subst (λ x. IsTrue b ↔ HasMemberPast p q x m) g
-    (subst (λ x. IsTrue b ↔ HasMemberPast p x time m) f (subst (λ x. IsTrue b ↔ HasMemberPast x count time m) e tells)))
+    (subst (λ x. IsTrue b ↔ HasMemberPast p x time m) f (subst (λ x. IsTrue b ↔ HasMemberPast x count time m) e reports)))
 
 -- a test of totals at equal numbers and equal totals
 pub total_test : (b : Bool) (site p : ℕ) (own mine entries others : Entries) → site ≡ p → own ≡ mine → entries ≡ others → (IsTrue b ↔ HasTotalPast site own entries) → IsTrue b ↔ HasTotalPast p mine others
-total_test b site p own mine entries others e f g tells =
-    subst (λ x. IsTrue b ↔ HasTotalPast p mine x) g (subst (λ x. IsTrue b ↔ HasTotalPast p x entries) f (subst (λ x. IsTrue b ↔ HasTotalPast x own entries) e tells))
+total_test b site p own mine entries others e f g reports =
+    subst (λ x. IsTrue b ↔ HasTotalPast p mine x) g (subst (λ x. IsTrue b ↔ HasTotalPast p x entries) f (subst (λ x. IsTrue b ↔ HasTotalPast x own entries) e reports))

@@ -23,7 +23,7 @@ use Rattle.member_orset.specs.Reads.{dots_seen_below}
 use Rattle.delta.specs.DeltaStates.{DeltaState}
 use Rattle.replica.specs.declared.refusal.Refusal.TheVariants.{MembersFull, Exhausted, Memory}
 use Rattle.replica.specs.Changes.{add_at, is_exhausted, is_full, is_too_long, time_replaced, write_at}
-use Rattle.replica.specs.Commands.{IsToldOf, IsToldOfAdds, IsToldOfWrites}
+use Rattle.replica.specs.Commands.{IsRefusalOf, IsRefusalOfAdds, IsRefusalOfWrites}
 use Rattle.replica.specs.Fitting.{is_past_with}
 use Rattle.replica.specs.Keeping.{IsBelow, IsKept}
 use Rattle.replica.specs.Site.{SiteState, view_of}
@@ -144,11 +144,11 @@ module _ (s : SiteState) (kept : IsKept s) (limits : IsWithinLimits s.state.memb
 -- ---- an add for which no number is left
 
 -- the refusal of an operation for which a delta is full
-pub told_full : (s : SiteState) (o : Operation) → (is_full (view_of s s.state) o ≡ true) ⊎ ((is_full (view_of s s.pending) o ≡ true) ⊎ (is_too_long o ≡ true)) → IsToldOf s o MembersFull
-told_full s o h = inr (full_means (view_of s s.state) (view_of s s.pending) o h)
+pub reported_full : (s : SiteState) (o : Operation) → (is_full (view_of s s.state) o ≡ true) ⊎ ((is_full (view_of s s.pending) o ≡ true) ⊎ (is_too_long o ≡ true)) → IsRefusalOf s o MembersFull
+reported_full s o h = inr (full_means (view_of s s.state) (view_of s s.pending) o h)
 
-pub told_exhausted : (s : SiteState) (o : Operation) → is_full (view_of s s.state) o ≡ false → is_full (view_of s s.pending) o ≡ false → is_too_long o ≡ false → is_exhausted o ≡ true → IsToldOf s o Exhausted
-told_exhausted s o p q l e = inr (exhausted_means (view_of s s.state) (view_of s s.pending) o p q l e)
+pub reported_exhausted : (s : SiteState) (o : Operation) → is_full (view_of s s.state) o ≡ false → is_full (view_of s s.pending) o ≡ false → is_too_long o ≡ false → is_exhausted o ≡ true → IsRefusalOf s o Exhausted
+reported_exhausted s o p q l e = inr (exhausted_means (view_of s s.state) (view_of s s.pending) o p q l e)
 
 -- ---- a write for which none is left
 
@@ -212,9 +212,9 @@ module _ (s : SiteState) (kept : IsKept s) (queue : Option ℕ) (interface : Lis
 
 module _ (s : SiteState) (kept : IsKept s) (limits : IsWithinLimits s.state.members) where
   -- with dead dots of too many runs each add is refused as full
-  pub adds_long : IsWithinLimits s.pending.members → MOST_RUNS < run_count (dead_dots_of s.state.members s.site) → IsToldOfAdds s MembersFull
+  pub adds_long : IsWithinLimits s.pending.members → MOST_RUNS < run_count (dead_dots_of s.state.members s.site) → IsRefusalOfAdds s MembersFull
   adds_long limits_pending many member penalty paused label e =
-      told_full s _ (inr (inr (dead_too_long s kept limits limits_pending member penalty paused label many)))
+      reported_full s _ (inr (inr (dead_too_long s kept limits limits_pending member penalty paused label many)))
 
   module _ (limits_pending : IsWithinLimits s.pending.members) (dots : set.FinSet dot_cmp) (count : ℕ) (are_dead : dots ≡ dead_dots_of s.state.members s.site) (is_next : count ≡ s.last_count + 1) where
     -- a test with these dots and this count is that with the dead ones and the next count
@@ -232,26 +232,26 @@ module _ (s : SiteState) (kept : IsKept s) (limits : IsWithinLimits s.state.memb
         one n = omega arith
 
     -- where the test of the state is true, the site is full
-    pub adds_full : is_past_with s.state dots 1 (record { site = s.site; count = count }) ≡ true → IsToldOfAdds s MembersFull
-    adds_full is member penalty paused label e = told_full s _ (inl (full_state s kept limits limits_pending member penalty paused label ∙ sym (same_test s.state) ∙ is))
+    pub adds_full : is_past_with s.state dots 1 (record { site = s.site; count = count }) ≡ true → IsRefusalOfAdds s MembersFull
+    adds_full is member penalty paused label e = reported_full s _ (inl (full_state s kept limits limits_pending member penalty paused label ∙ sym (same_test s.state) ∙ is))
 
     -- if the test of the buffer is true, the site is full
-    pub adds_full_pending : is_past_with s.pending dots 1 (record { site = s.site; count = count }) ≡ true → IsToldOfAdds s MembersFull
-    adds_full_pending is member penalty paused label e = told_full s _ (inr (inl (full_pending s kept limits limits_pending member penalty paused label ∙ sym (same_test s.pending) ∙ is)))
+    pub adds_full_pending : is_past_with s.pending dots 1 (record { site = s.site; count = count }) ≡ true → IsRefusalOfAdds s MembersFull
+    adds_full_pending is member penalty paused label e = reported_full s _ (inr (inl (full_pending s kept limits limits_pending member penalty paused label ∙ sym (same_test s.pending) ∙ is)))
 
     -- if the test of the dead dots alone is true, the site is full
-    pub adds_too_long : MOST_RUNS < run_count (set.insert (set.union dots dots) (record { site = s.site; count = count })) → IsToldOfAdds s MembersFull
+    pub adds_too_long : MOST_RUNS < run_count (set.insert (set.union dots dots) (record { site = s.site; count = count })) → IsRefusalOfAdds s MembersFull
     adds_too_long many member penalty paused label e =
-        told_full s _ (inr (inr (long_next s kept limits limits_pending member penalty paused label ∙ ap (nat_lt MOST_RUNS) (sym same_runs_test) ∙ test (run_count (set.insert (set.union dots dots) (record { site = s.site; count = count }))) many)))
+        reported_full s _ (inr (inr (long_next s kept limits limits_pending member penalty paused label ∙ ap (nat_lt MOST_RUNS) (sym same_runs_test) ∙ test (run_count (set.insert (set.union dots dots) (record { site = s.site; count = count }))) many)))
       where
         test : (n : ℕ) → MOST_RUNS < n → nat_lt MOST_RUNS n ≡ true
         test n h = grind (arith, nat_tests)
 
     -- if no test is true, the numbers of the site are used up
     pub adds_exhausted : is_past_with s.state dots 1 (record { site = s.site; count = count }) ≡ false → is_past_with s.pending dots 1 (record { site = s.site; count = count }) ≡ false
-        → (MOST_RUNS < run_count (set.insert (set.union dots dots) (record { site = s.site; count = count })) → ⊥) → IsToldOfAdds s Exhausted
+        → (MOST_RUNS < run_count (set.insert (set.union dots dots) (record { site = s.site; count = count })) → ⊥) → IsRefusalOfAdds s Exhausted
     adds_exhausted p q few member penalty paused label e =
-        told_exhausted s _ (full_state s kept limits limits_pending member penalty paused label ∙ sym (same_test s.state) ∙ p)
+        reported_exhausted s _ (full_state s kept limits limits_pending member penalty paused label ∙ sym (same_test s.state) ∙ p)
         (full_pending s kept limits limits_pending member penalty paused label ∙ sym (same_test s.pending) ∙ q)
         (long_next s kept limits limits_pending member penalty paused label ∙ ap (nat_lt MOST_RUNS) (sym same_runs_test) ∙ test (run_count (set.insert (set.union dots dots) (record { site = s.site; count = count }))) few) e
       where
@@ -259,17 +259,17 @@ module _ (s : SiteState) (kept : IsKept s) (limits : IsWithinLimits s.state.memb
         test n h = grind (arith, nat_tests)
 
 -- all may be refused as out of memory
-pub adds_memory : (s : SiteState) → IsToldOfAdds s Memory
+pub adds_memory : (s : SiteState) → IsRefusalOfAdds s Memory
 adds_memory s member penalty paused label e = inl refl
 
-pub writes_memory : (s : SiteState) (dots : List Dot) → IsToldOfWrites s dots Memory
+pub writes_memory : (s : SiteState) (dots : List Dot) → IsRefusalOfWrites s dots Memory
 writes_memory s dots queue interface setting are e = inl refl
 
 module _ (s : SiteState) (kept : IsKept s) (dots : List Dot) where
   -- with dots that make too many runs together with the older ones each write is refused as full
-  pub writes_long : MOST_RUNS < run_count (dots_seen_below s.state.members dots) → IsToldOfWrites s dots MembersFull
+  pub writes_long : MOST_RUNS < run_count (dots_seen_below s.state.members dots) → IsRefusalOfWrites s dots MembersFull
   writes_long many queue interface setting are e =
-      told_full s _ (inr (inr (long_written s kept queue interface setting ∙ test (run_count (seen s kept queue interface setting)) (subst (λ ds. MOST_RUNS < run_count (dots_seen_below s.state.members ds)) are many))))
+      reported_full s _ (inr (inr (long_written s kept queue interface setting ∙ test (run_count (seen s kept queue interface setting)) (subst (λ ds. MOST_RUNS < run_count (dots_seen_below s.state.members ds)) are many))))
     where
       test : (n : ℕ) → MOST_RUNS < n → nat_lt MOST_RUNS n ≡ true
       test n h = grind (arith, nat_tests)
@@ -280,17 +280,17 @@ module _ (s : SiteState) (kept : IsKept s) (dots : List Dot) where
         → is_past_with d below (length dots) first ≡ is_past_with d (seen s kept queue interface setting) (length (its_dots s kept queue interface setting)) first
     past_written queue interface setting are d i = is_past_with d ((is_seen ∙ ap (dots_seen_below s.state.members) are) i) (length (are i)) first
 
-    pub writes_full : is_past_with s.state below (length dots) first ≡ true → IsToldOfWrites s dots MembersFull
+    pub writes_full : is_past_with s.state below (length dots) first ≡ true → IsRefusalOfWrites s dots MembersFull
     writes_full is queue interface setting are e =
-        told_full s _ (inl (full_state_written s kept queue interface setting first (subst (λ ds. Contains ds first) are here) ∙ sym (past_written queue interface setting are s.state) ∙ is))
+        reported_full s _ (inl (full_state_written s kept queue interface setting first (subst (λ ds. Contains ds first) are here) ∙ sym (past_written queue interface setting are s.state) ∙ is))
 
-    pub writes_full_pending : is_past_with s.pending below (length dots) first ≡ true → IsToldOfWrites s dots MembersFull
+    pub writes_full_pending : is_past_with s.pending below (length dots) first ≡ true → IsRefusalOfWrites s dots MembersFull
     writes_full_pending is queue interface setting are e =
-        told_full s _ (inr (inl (full_pending_written s kept queue interface setting first (subst (λ ds. Contains ds first) are here) ∙ sym (past_written queue interface setting are s.pending) ∙ is)))
+        reported_full s _ (inr (inl (full_pending_written s kept queue interface setting first (subst (λ ds. Contains ds first) are here) ∙ sym (past_written queue interface setting are s.pending) ∙ is)))
 
-    pub writes_exhausted : is_past_with s.state below (length dots) first ≡ false → is_past_with s.pending below (length dots) first ≡ false → IsToldOfWrites s dots Exhausted
+    pub writes_exhausted : is_past_with s.state below (length dots) first ≡ false → is_past_with s.pending below (length dots) first ≡ false → IsRefusalOfWrites s dots Exhausted
     writes_exhausted p q queue interface setting are e =
-        told_exhausted s _ (full_state_written s kept queue interface setting first (subst (λ ds. Contains ds first) are here) ∙ sym (past_written queue interface setting are s.state) ∙ p)
+        reported_exhausted s _ (full_state_written s kept queue interface setting first (subst (λ ds. Contains ds first) are here) ∙ sym (past_written queue interface setting are s.state) ∙ p)
         (full_pending_written s kept queue interface setting first (subst (λ ds. Contains ds first) are here) ∙ sym (past_written queue interface setting are s.pending) ∙ q)
         (long_written s kept queue interface setting ∙ test (run_count (seen s kept queue interface setting)) (subst (λ k. MOST_RUNS < run_count k → ⊥) (is_seen ∙ ap (dots_seen_below s.state.members) are) few)) e
       where

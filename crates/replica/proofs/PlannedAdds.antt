@@ -28,7 +28,7 @@ use Rattle.replica.specs.declared.refusal.Refusal.{Refusal}
 use Rattle.replica.specs.declared.refusal.Refusal.TheVariants.{AlreadyThere, MembersFull}
 use Rattle.replica.specs.Changes.{AddMember, Meaning, Refused, add_at, in_queue, is_exhausted, is_used_up, where_absent, within_limits}
 use Rattle.replica.specs.Changing.{IsChangeOf}
-use Rattle.replica.specs.Commands.{IsToldOf, IsToldOfAdds, MayWantMemory}
+use Rattle.replica.specs.Commands.{IsRefusalOf, IsRefusalOfAdds, MayWantMemory}
 use Rattle.replica.specs.Keeping.{IsKept}
 use Rattle.replica.specs.Planning.{IsPlan, IsUnplanned}
 use Rattle.replica.specs.Queues.{number_of}
@@ -136,10 +136,10 @@ module _ (s : SiteState) (kept : IsKept s) (limits : IsWithinLimits s.state.memb
     add_wants = subst MayWantMemory (sym means_next) (limits_want (view_of s s.state) (view_of s s.pending) adding refl)
 
     -- the refusal of all adds is that of this one
-    pub add_told : (refusal : Refusal) → IsToldOfAdds s refusal → is_exhausted adding ≡ true → IsUnplanned meant refusal
-    add_told refusal told exhausted = by (told member penalty paused label exhausted)
+    pub add_reported : (refusal : Refusal) → IsRefusalOfAdds s refusal → is_exhausted adding ≡ true → IsUnplanned meant refusal
+    add_reported refusal reported exhausted = by (reported member penalty paused label exhausted)
       where
-        by : IsToldOf s adding refusal → IsUnplanned meant refusal
+        by : IsRefusalOf s adding refusal → IsUnplanned meant refusal
         by (inl e) = inl (e, add_wants)
         by (inr e) = inr (means_next ∙ e)
 

@@ -16,7 +16,7 @@ use Rattle.replica.specs.declared.refusal.Refusal.{Refusal}
 use Rattle.replica.specs.declared.refusal.Refusal.TheVariants.{MembersFull}
 use Rattle.replica.specs.Changes.{Meaning, Refused, RemoveMember, in_queue, meaning_of_setting, remove_of, time_replaced, where_present, within_limits, write_at}
 use Rattle.replica.specs.Changing.{IsChangeOf}
-use Rattle.replica.specs.Commands.{IsToldOf, IsToldOfWrites, MayWantMemory}
+use Rattle.replica.specs.Commands.{IsRefusalOf, IsRefusalOfWrites, MayWantMemory}
 use Rattle.replica.specs.Keeping.{IsKept}
 use Rattle.replica.specs.Planning.{IsPlan, IsUnplanned}
 use Rattle.replica.specs.Queues.{number_of}
@@ -119,10 +119,10 @@ module _ (s : SiteState) (kept : IsKept s) (limits : IsWithinLimits s.state.memb
       write_wants = subst MayWantMemory (sym write_means) (limits_want (view_of s s.state) (view_of s s.pending) writing refl)
 
       -- the refusal of all writes is that of this one, where its time is past the greatest
-      pub write_told : (dots : List Dot) (refusal : Refusal) → dots ≡ its_dots → IsToldOfWrites s dots refusal → (IsCount next_time → ⊥) → IsUnplanned meant refusal
-      write_told dots refusal are told none = by (told queue interface setting are (used_up (max s.last_time (greatest (λ d. time_replaced (view_of s s.state).dots setting d.0) seen)) none))
+      pub write_reported : (dots : List Dot) (refusal : Refusal) → dots ≡ its_dots → IsRefusalOfWrites s dots refusal → (IsCount next_time → ⊥) → IsUnplanned meant refusal
+      write_reported dots refusal are reported none = by (reported queue interface setting are (used_up (max s.last_time (greatest (λ d. time_replaced (view_of s s.state).dots setting d.0) seen)) none))
         where
-          by : IsToldOf s writing refusal → IsUnplanned meant refusal
+          by : IsRefusalOf s writing refusal → IsUnplanned meant refusal
           by (inl e) = inl (e, write_wants)
           by (inr e) = inr (write_means ∙ e)
 

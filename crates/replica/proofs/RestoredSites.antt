@@ -110,8 +110,8 @@ stamps_not_past site last d own past = at (own past.dot past.held past.live) pas
 
 -- a test for a stamp past a time fails exactly where the own stamps are up to it
 pub stamps_test : (site last : ℕ) (d : DeltaState) (b : Bool) → (IsTrue b ↔ HasStampPast site last d.members) → IsTrue (not b) ↔ HasOwnStamps site last d
-stamps_test site last d true tells = (λ h. absurd cc, λ own. absurd (stamps_not_past site last d own (tells.0 refl)))
-stamps_test site last d false tells = (λ h. stamps_up_to site last d (λ past. never (tells.1 past)), λ own. refl)
+stamps_test site last d true reports = (λ h. absurd cc, λ own. absurd (stamps_not_past site last d own (reports.0 refl)))
+stamps_test site last d false reports = (λ h. stamps_up_to site last d (λ past. never (reports.1 past)), λ own. refl)
   where
     never : IsTrue false → ⊥
     never h = cc
@@ -124,8 +124,8 @@ not_strange n d within (inr s) = let p = s.strange in omega (arith, within.total
 
 -- where no total is of a strange queue, a test for a member of one fails exactly where all are of the queues
 pub queues_test : (n : ℕ) (d : DeltaState) (b : Bool) → (HasStrangeTotal n d.totals.entries → ⊥) → (IsTrue b ↔ HasStrangeMember n d.members) → IsTrue (not b) ↔ AreInQueues n d
-queues_test n d true none tells = (λ h. absurd cc, λ within. absurd (not_strange n d within (inl (tells.0 refl))))
-queues_test n d false none tells = (λ h. in_queues n d (λ strange. elim strange [ inl s ↦ never (tells.1 s) | inr s ↦ none s ]), λ within. refl)
+queues_test n d true none reports = (λ h. absurd cc, λ within. absurd (not_strange n d within (inl (reports.0 refl))))
+queues_test n d false none reports = (λ h. in_queues n d (λ strange. elim strange [ inl s ↦ never (reports.1 s) | inr s ↦ none s ]), λ within. refl)
   where
     never : IsTrue false → ⊥
     never h = cc
@@ -144,11 +144,11 @@ known_by_condition m limits dot = known_at (map.get m.live dot) (set.contains m.
 -- deltas that are below each other, whose sets are within their limits and whose totals are, say the same
 pub same_both_ways : (d e : DeltaState) → IsBelow d e → IsBelow e d → IsWithinLimits d.members → IsWithinLimits e.members
     → InLimits d.totals.entries → InLimits e.totals.entries → IsSame d e
-same_both_ways d e p q limits others counted told = record {
+same_both_ways d e p q limits others counted reported = record {
   conditions = conditions;
   known = set.same_set dots_total dots_exact d.members.known e.members.known (λ dot.
       known_by_condition d.members limits dot ∙ ap is_some (conditions dot) ∙ sym (known_by_condition e.members others dot));
-  totals = read_alike d.totals.entries e.totals.entries counted told (λ site queue.
+  totals = read_alike d.totals.entries e.totals.entries counted reported (λ site queue.
       by_numbers (totals_of d.totals.entries site queue) (totals_of e.totals.entries site queue) (number Completed site queue) (number Abandoned site queue));
 }
   where
@@ -161,9 +161,9 @@ same_both_ways d e p q limits others counted told = record {
 -- the join of a delta with one below it says the same as it did
 pub below_adds_nothing : (d x f : DeltaState) → DeltasAgree d x → IsJoinOf d x f → IsBelow x d → IsWithinLimits d.members → IsWithinLimits f.members
     → InLimits d.totals.entries → InLimits x.totals.entries → IsSame d f
-below_adds_nothing d x f agree j below limits others counted told =
+below_adds_nothing d x f agree j below limits others counted reported =
     same_both_ways d f (below_joined d x f agree j) (joined_least d x f d agree j (below_self d) below) limits others counted
-    (subst InLimits (sym j.totals) (joined_limits d.totals.entries x.totals.entries counted told))
+    (subst InLimits (sym j.totals) (joined_limits d.totals.entries x.totals.entries counted reported))
 
 -- ---- what the parts make
 

@@ -50,15 +50,15 @@ abbrev pub IsDone : SiteState → Meaning → SiteState → Result (Unit {0}) Re
 IsDone old meant new result = Follows old meant new result ⊎ (IsUnchanged old new × (result ≡ Err Memory) × MayWantMemory meant)
 
 -- the refusal of an operation for which no number is left: the one of its meaning, or out of memory
-abbrev pub IsToldOf : SiteState → Operation → Refusal → Type 0
-IsToldOf s o refusal = (refusal ≡ Memory) ⊎ (within_limits (view_of s s.state) (view_of s s.pending) o ≡ Refused refusal)
+abbrev pub IsRefusalOf : SiteState → Operation → Refusal → Type 0
+IsRefusalOf s o refusal = (refusal ≡ Memory) ⊎ (within_limits (view_of s s.state) (view_of s s.pending) o ≡ Refused refusal)
 
 -- each add that needs a number past the greatest has this refusal
-abbrev pub IsToldOfAdds : SiteState → Refusal → Type 0
-IsToldOfAdds s refusal = (member : Member) (penalty : ℕ) (paused : Bool) (label : Label) → let o = add_at s.site (view_of s s.state) member penalty paused label in
-    is_exhausted o ≡ true → IsToldOf s o refusal
+abbrev pub IsRefusalOfAdds : SiteState → Refusal → Type 0
+IsRefusalOfAdds s refusal = (member : Member) (penalty : ℕ) (paused : Bool) (label : Label) → let o = add_at s.site (view_of s s.state) member penalty paused label in
+    is_exhausted o ≡ true → IsRefusalOf s o refusal
 
 -- each write on these dots that needs a number past the greatest has this refusal
-abbrev pub IsToldOfWrites : SiteState → List Dot → Refusal → Type 0
-IsToldOfWrites s dots refusal = (queue : Option ℕ) (interface : List ℕ) (setting : Setting) → let seen = dots_seen (view_of s s.state).dots queue interface in
-    dots ≡ each (λ p. p.0) seen → let o = write_at s.site (view_of s s.state) setting seen in is_exhausted o ≡ true → IsToldOf s o refusal
+abbrev pub IsRefusalOfWrites : SiteState → List Dot → Refusal → Type 0
+IsRefusalOfWrites s dots refusal = (queue : Option ℕ) (interface : List ℕ) (setting : Setting) → let seen = dots_seen (view_of s s.state).dots queue interface in
+    dots ≡ each (λ p. p.0) seen → let o = write_at s.site (view_of s s.state) setting seen in is_exhausted o ≡ true → IsRefusalOf s o refusal

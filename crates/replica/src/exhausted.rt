@@ -1,6 +1,6 @@
 //! The refusal of a command for which no number is left: `MembersFull` before `Exhausted`.
 ghost use Rattle.std.specs.Prelude.{◌≡◌, ◌<◌, ◌≤◌, length};
-ghost use Rattle.replica.specs.Commands.{IsToldOfAdds, IsToldOfWrites};
+ghost use Rattle.replica.specs.Commands.{IsRefusalOfAdds, IsRefusalOfWrites};
 
 use crate::full::is_full_with;
 use crate::{Refusal, Replica};
@@ -23,7 +23,7 @@ impl Replica {
     // state, the buffer or the operation would have too many live dots or runs, else `Exhausted`.
     // `Memory` may replace both.
     pub(crate) fn refuse_add(&self) -> Refusal
-        ensures { IsToldOfAdds self.now result }
+        ensures { IsRefusalOfAdds self.now result }
     {
         let next = self.count + 1;
         let dead = match self.state.members().dead_of(self.site) {
@@ -48,7 +48,7 @@ impl Replica {
     pub(crate) fn refuse_write(&self, dots: &[Dot]) -> Refusal
         requires some { 0 < length dots.now }
         requires few { length dots.now ≤ MOST_LIVE }
-        ensures { IsToldOfWrites self.now dots.now result }
+        ensures { IsRefusalOfWrites self.now dots.now result }
     {
         let seen = match self.state.members().seen_below(dots) {
             Ok(seen) => seen,

@@ -23,7 +23,7 @@ use Rattle.scripts.specs.LineSteps.{StandsForGiven, IsHappening, StandsAt}
 -- one event has happened, and didn't run out of memory
 pub one_happened : LeadsOn → (place : ScriptSites) (old new : WorldState) (w : World) (e : Event) (o : Outcome) → place.names ≡ old.names → new.names ≡ old.names → length new.sites ≡ length old.sites
     → StandsAt old w → HasHappened new w e o → (o ≡ NoMemory → ⊥) → IsHappening place w e new o
-one_happened leads place old new w e o names kept count at (inr wanting) done = absurd (done wanting.0)
+one_happened leads place old new w e o names kept count at (inr no_memory) done = absurd (done no_memory.0)
 one_happened leads place old new w e o names kept count at (inl happened) done = record {
   stands = record {
     reached = subst (λ n. IsReached new.names n (happens place.names w e).0) (sym count)

@@ -113,25 +113,25 @@ broken_came TooManyFields given now after held rest more reads left last stays i
 broken_came DeskDown given now after held rest more reads left last stays is_rest come piece = absurd piece.holds
 
 -- the stream that a read's result gives
-pub held_so : (now after : Option (List ℕ)) (rest more : List ℕ) (left last : ℕ) (result told : Result Bool ServeFault) → result ≡ told
-    → HasCome now after rest left last (IsHeld result rest more) → HasCome now after rest left last (IsHeld told rest more)
-held_so now after rest more left last result told is come = subst (λ r. HasCome now after rest left last (IsHeld r rest more)) is come
+pub held_so : (now after : Option (List ℕ)) (rest more : List ℕ) (left last : ℕ) (result reported : Result Bool ServeFault) → result ≡ reported
+    → HasCome now after rest left last (IsHeld result rest more) → HasCome now after rest left last (IsHeld reported rest more)
+held_so now after rest more left last result reported is come = subst (λ r. HasCome now after rest left last (IsHeld r rest more)) is come
 
 -- the bytes that a read's result gives
-pub next_so : (now after : Option (List ℕ)) (held rest : List ℕ) (reads left : ℕ) (result told : Result (Option (List NameAndValue)) ServeFault) → result ≡ told
-    → HasCome now after held reads left (StandsFirst result held rest) → HasCome now after held reads left (StandsFirst told held rest)
-next_so now after held rest reads left result told is come = subst (λ r. HasCome now after held reads left (StandsFirst r held rest)) is come
+pub next_so : (now after : Option (List ℕ)) (held rest : List ℕ) (reads left : ℕ) (result reported : Result (Option (List NameAndValue)) ServeFault) → result ≡ reported
+    → HasCome now after held reads left (StandsFirst result held rest) → HasCome now after held reads left (StandsFirst reported held rest)
+next_so now after held rest reads left result reported is come = subst (λ r. HasCome now after held reads left (StandsFirst r held rest)) is come
 
 not_both : (o : Option FeedFault) (fault : FeedFault) → o ≡ None → o ≡ Some fault → ⊥
 not_both o fault none some = cc
 
 -- what a feed shows that fails
-pub fault_next : (fault : FeedFault) (told : ServeFault) (was : FeedState) (old held stream : List ℕ) → told ≡ session_fault fault → was.fault ≡ None
-    → (IsStreamFault (Some fault) → (was.fault ≡ Some fault) ⊎ HasFault fault was.held) → Gives stream [] was.held → IsWanted old stream → StandsFirst (Err told) old held stream
-fault_next stream_fault.LineTooLong told was old held stream is works shows gives wants =
+pub fault_next : (fault : FeedFault) (reported : ServeFault) (was : FeedState) (old held stream : List ℕ) → reported ≡ session_fault fault → was.fault ≡ None
+    → (IsStreamFault (Some fault) → (was.fault ≡ Some fault) ⊎ HasFault fault was.held) → Gives stream [] was.held → IsWanted old stream → StandsFirst (Err reported) old held stream
+fault_next stream_fault.LineTooLong reported was old held stream is works shows gives wants =
     subst (λ f. StandsFirst (Err f) old held stream) (sym is)
     ((was.held, gives, ⊎_elim (λ failed. absurd (not_both was.fault stream_fault.LineTooLong works failed)) (λ has. has) (shows tt)), wants)
-fault_next stream_fault.TooManyFields told was old held stream is works shows gives wants =
+fault_next stream_fault.TooManyFields reported was old held stream is works shows gives wants =
     subst (λ f. StandsFirst (Err f) old held stream) (sym is)
     ((was.held, gives, ⊎_elim (λ failed. absurd (not_both was.fault stream_fault.TooManyFields works failed)) (λ has. has) (shows tt)), wants)
-fault_next stream_fault.Memory told was old held stream is works shows gives wants = subst (λ f. StandsFirst (Err f) old held stream) (sym is) wants
+fault_next stream_fault.Memory reported was old held stream is works shows gives wants = subst (λ f. StandsFirst (Err f) old held stream) (sym is) wants

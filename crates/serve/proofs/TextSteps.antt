@@ -4,7 +4,7 @@ use Rattle.status_report.specs.declared.asks.Answer.{Answer}
 use Rattle.status_report.specs.declared.asks.Ask.{Ask}
 use Rattle.ami_session.specs.Checks.{SessionState, Reaction, Replies, Asks, Ends, after, answer_reply, reaction}
 use Rattle.ami_session.specs.FieldValues.{Fields}
-use Rattle.ami_session.specs.Text.{after_all, asks, asks_upon, greeting, is_end, is_over, replies, text_upon}
+use Rattle.ami_session.specs.Text.{after_all, asks, reaction_asks, greeting, is_end, is_over, replies, reaction_text}
 use Rattle.serve.specs.Desks.{DeskRun}
 use Rattle.serve.specs.Sessions.{HasText}
 use Rattle.serve.specs.Steps.{HasReacted}
@@ -40,19 +40,19 @@ over_one (n ∷ ms) s m going =
 
 -- what it asks comes behind what was asked
 asks_by : (r : Reaction) (rest : Bool) (asked more last : List Ask) → (rest ≡ false → more ≡ asked ++ last) → (is_end r || rest) ≡ false
-    → asks_upon r more ≡ asks_upon r asked ++ last
+    → reaction_asks r more ≡ reaction_asks r asked ++ last
 asks_by (Replies bytes) rest asked more last so going = so going
 asks_by (Asks ask waiting) rest asked more last so going = ap (λ t. ask ∷ t) (so going)
 asks_by (Ends bytes) rest asked more last so going = absurd (true≢false going)
 
-pub asks_one : (ms : List Fields) (s : SessionState) (m : Fields) → is_over s ms ≡ false → asks s (ms ++ m ∷ []) ≡ asks s ms ++ asks_upon (reaction (after_all s ms) m) []
+pub asks_one : (ms : List Fields) (s : SessionState) (m : Fields) → is_over s ms ≡ false → asks s (ms ++ m ∷ []) ≡ asks s ms ++ reaction_asks (reaction (after_all s ms) m) []
 asks_one [] s m going = refl
 asks_one (n ∷ ms) s m going =
-    asks_by (reaction s n) (is_over (after s n) ms) (asks (after s n) ms) (asks (after s n) (ms ++ m ∷ [])) (asks_upon (reaction (after_all (after s n) ms) m) [])
+    asks_by (reaction s n) (is_over (after s n) ms) (asks (after s n) ms) (asks (after s n) (ms ++ m ∷ [])) (reaction_asks (reaction (after_all (after s n) ms) m) [])
     (asks_one ms (after s n) m) going
 
 -- a further message's reply follows the replies, if the desk has answered all asks
-reply_alone : (r : Reaction) (s : SessionState) (answers : List Answer) → text_upon r (replies s []) answers ≡ text_upon r (λ _. []) answers
+reply_alone : (r : Reaction) (s : SessionState) (answers : List Answer) → reaction_text r (replies s []) answers ≡ reaction_text r (λ _. []) answers
 reply_alone (Replies bytes) s answers = refl
 reply_alone (Ends bytes) s answers = refl
 reply_alone (Asks ask waiting) s [] = refl
@@ -60,7 +60,7 @@ reply_alone (Asks ask waiting) s (answer ∷ answers) = refl
 
 replies_by : {D : Type 0} (Answers : D → Ask → Answer → D → Type 0) (r : Reaction) (rest : Bool) (asked : List Ask) (text more : List Answer → List ℕ) (last : List ℕ) (answers others : List Answer) (d e : D)
     → ((answers : List Answer) (d : D) → rest ≡ false → DeskRun Answers d asked answers e → more (answers ++ others) ≡ text answers ++ last)
-    → (is_end r || rest) ≡ false → DeskRun Answers d (asks_upon r asked) answers e → text_upon r more (answers ++ others) ≡ text_upon r text answers ++ last
+    → (is_end r || rest) ≡ false → DeskRun Answers d (reaction_asks r asked) answers e → reaction_text r more (answers ++ others) ≡ reaction_text r text answers ++ last
 replies_by Answers (Replies bytes) rest asked text more last answers others d e so going run =
     ap (λ t. bytes ++ t) (so answers d going run) ∙ sym (append_assoc bytes (text answers) last)
 replies_by Answers (Asks ask waiting) rest asked text more last [] others d e so going run = absurd run
@@ -70,12 +70,12 @@ replies_by Answers (Ends bytes) rest asked text more last answers others d e so 
 
 pub replies_one : {D : Type 0} (Answers : D → Ask → Answer → D → Type 0) (ms : List Fields) (s : SessionState) (m : Fields) (answers others : List Answer) (d e : D)
     → is_over s ms ≡ false → DeskRun Answers d (asks s ms) answers e
-    → replies s (ms ++ m ∷ []) (answers ++ others) ≡ replies s ms answers ++ text_upon (reaction (after_all s ms) m) (λ _. []) others
+    → replies s (ms ++ m ∷ []) (answers ++ others) ≡ replies s ms answers ++ reaction_text (reaction (after_all s ms) m) (λ _. []) others
 replies_one Answers [] s m [] others d e going run = reply_alone (reaction s m) (after s m) others
 replies_one Answers [] s m (answer ∷ answers) others d e going run = absurd run
 replies_one Answers (n ∷ ms) s m answers others d e going run =
     replies_by Answers (reaction s n) (is_over (after s n) ms) (asks (after s n) ms) (replies (after s n) ms) (replies (after s n) (ms ++ m ∷ []))
-    (text_upon (reaction (after_all (after s n) ms) m) (λ _. []) others) answers others d e
+    (reaction_text (reaction (after_all (after s n) ms) m) (λ _. []) others) answers others d e
     (λ some from on ran. replies_one Answers ms (after s n) m some others from e on ran) going run
 
 -- the session's text grows by the text of one message more
@@ -88,7 +88,7 @@ text_one Answers s now d mid e ms m text more going is has done =
     record {
       answers = has.answers ++ here.answers;
       run = subst (λ asked. DeskRun Answers d asked (has.answers ++ here.answers) e) (sym (asks_one ms s m going))
-          (run_then Answers (asks s ms) has.answers (asks_upon r []) here.answers d mid e has.run here.run);
+          (run_then Answers (asks s ms) has.answers (reaction_asks r []) here.answers d mid e has.run here.run);
       is = ap (λ t. t ++ more) has.is ∙ append_assoc (greeting s) (replies s ms has.answers) more
           ∙ ap (λ t. greeting s ++ (replies s ms has.answers ++ t)) here.is
           ∙ ap (λ t. greeting s ++ t) (sym (replies_one Answers ms s m has.answers here.answers d mid going has.run));

@@ -3,7 +3,7 @@ use Rattle.std.proofs.Common.{◌≡◌, ⊎_elim, inl, inr, ℕ, List, [], ◌�
 use Rattle.status_report.specs.declared.asks.Answer.{Answer}
 use Rattle.status_report.specs.declared.asks.Ask.{Ask}
 use Rattle.ami_session.specs.Checks.{Reaction, SessionState}
-use Rattle.ami_session.specs.Text.{asks, asks_upon}
+use Rattle.ami_session.specs.Text.{asks, reaction_asks}
 use Rattle.serve.specs.declared.serve_fault.ServeFault.{ServeFault}
 use Rattle.serve.specs.declared.serve_fault.ServeFault.TheVariants.{Read, Write, LineTooLong, TooManyFields, DeskDown, Turns, Memory}
 use Rattle.serve.specs.Desks.{DeskRun, EachKeeps, HasWorked}
@@ -40,14 +40,14 @@ pub work_said : {D : Type 0} (Answers : D → Ask → Answer → D → Type 0) (
     (given before old written new : Option (List ℕ)) (held : List ℕ) (reads : ℕ) → HasCarried given before old written (Going Answers s d mid now held reads)
     → HasSaid Answers r mid e written new → HasWorked Answers Refuses d e
 work_said Answers Refuses s now r d mid e given before old written new held reads c has =
-    work_then Answers Refuses s now d mid e given before old written held reads (asks_upon r []) has.done.answers c has.done.run
+    work_then Answers Refuses s now d mid e given before old written held reads (reaction_asks r []) has.done.answers c has.done.run
 
 -- also where that breaks off
 pub work_broken : {D : Type 0} (Answers : D → Ask → Answer → D → Type 0) (Refuses : D → Ask → D → Type 0) (fault : ServeFault) (s now : SessionState) (r : Reaction) (d mid e : D)
     (given before old written new : Option (List ℕ)) (held : List ℕ) (reads : ℕ) → HasCarried given before old written (Going Answers s d mid now held reads)
     → BreaksOff Answers Refuses r mid e written new fault → HasWorked Answers Refuses d e
 work_broken Answers Refuses Write s now r d mid e given before old written new held reads c broken =
-    work_then Answers Refuses s now d mid e given before old written held reads (asks_upon r []) broken.done.answers c broken.done.run
+    work_then Answers Refuses s now d mid e given before old written held reads (reaction_asks r []) broken.done.answers c broken.done.run
 work_broken Answers Refuses Memory s now r d mid e given before old written new held reads c broken = ⊎_elim
     (λ (same : e ≡ mid). subst (λ x. HasWorked Answers Refuses d x) (sym same) (work_so_far Answers Refuses s now d mid given before old written held reads c))
     (λ (y : HasAnswered Answers r mid e).

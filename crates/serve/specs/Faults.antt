@@ -16,4 +16,4 @@ session_fault feed.Memory = Memory
 pub record FailsWith {T : Type 0} (fault : ServeFault) (result : Result T ServeFault) (failed : Bool) : Type 0 where
   pub works : OnOk result (failed ≡ false)
   pub fails : result ≡ Err fault → failed ≡ true
-  pub tells : failed ≡ true → result ≡ Err fault
+  pub reports : failed ≡ true → result ≡ Err fault

@@ -8,7 +8,7 @@ use Rattle.status_report.specs.declared.asks.Answer.{Answer}
 use Rattle.status_report.specs.declared.asks.Ask.{Ask}
 use Rattle.ami_session.specs.Checks.{Asks, Reaction, Waiting}
 use Rattle.ami_session.specs.FieldValues.{Fields}
-use Rattle.ami_session.specs.Text.{asks_upon, text_upon}
+use Rattle.ami_session.specs.Text.{reaction_asks, reaction_text}
 use Rattle.serve.specs.declared.serve_fault.ServeFault.{ServeFault}
 use Rattle.serve.specs.declared.serve_fault.ServeFault.TheVariants.{Read, Write, LineTooLong, TooManyFields, DeskDown, Turns, Memory}
 use Rattle.serve.specs.declared.incoming.Incoming.{Incoming}
@@ -84,8 +84,8 @@ StandsFirst (Err DeskDown) old new stream = ⊥
 -- the desk has answered the ask of a reaction, and this text is to be written
 pub record HasReacted {D : Type 0} (Answers : D → Ask → Answer → D → Type 0) (r : Reaction) (d e : D) (text : List ℕ) : Type 0 where
   pub answers : List Answer
-  pub run : DeskRun Answers d (asks_upon r []) answers e
-  pub is : text ≡ text_upon r (λ _. []) answers
+  pub run : DeskRun Answers d (reaction_asks r []) answers e
+  pub is : text ≡ reaction_text r (λ _. []) answers
 
 -- the desk has answered the ask of a reaction, and a sink has taken the text of the reply
 pub record HasSaid {D : Type 0} (Answers : D → Ask → Answer → D → Type 0) (r : Reaction) (d e : D) (taken_old taken_new : Option (List ℕ)) : Type 0 where

@@ -32,7 +32,7 @@ use Rattle.sites_world.specs.declared.event.Event.{Event}
 use Rattle.sites_world.specs.declared.event.Event.TheVariants as event
 use Rattle.sites_world.specs.declared.outcome.Outcome.TheVariants as outcome
 use Rattle.sites_world.specs.Holding.{MayTakeEntries}
-use Rattle.sites_world.specs.Worlds.{Entry, IsReached, World, entries_of, frame_told, framed, happens, happens_at, site_of, take_told, taken}
+use Rattle.sites_world.specs.Worlds.{Entry, IsReached, World, entries_of, frame_result, framed, happens, happens_at, site_of, take_result, taken}
 use Rattle.sites_world.specs.WorldStates.{IsSiteOf}
 use Rattle.site_audit.specs.Places.{AreSpelled}
 use Rattle.site_audit.specs.Replays.{made_by}
@@ -73,7 +73,7 @@ module _ (names : List (List ℕ)) (w : World) (s : SiteKnowledge) (site : ℕ) 
       record {
         gives = gives (record {
           place = length w.pool;
-          told = ap (λ x. x.1) (happens_known names w e s at) ∙ ap (λ h. h.outcome) happening ∙ ap (λ o. outcome.Cut (frame_told (length w.pool) o)) said.outcome_is;
+          outcome = ap (λ x. x.1) (happens_known names w e s at) ∙ ap (λ h. h.outcome) happening ∙ ap (λ o. outcome.Cut (frame_result (length w.pool) o)) said.outcome_is;
           spelled = record { entry = entry; is = ap (λ p. slice_get p (length w.pool)) now ∙ get_last w.pool entry; spelling = spelling };
         });
         is = subst (λ n. IsSiteOf names n to (happens_at names w.pool s e).site) (sym of) (subst (λ h. IsSiteOf names site to h.site) (sym happening) stands);
@@ -105,7 +105,7 @@ module _ (names : List (List ℕ)) (w : World) (s : SiteKnowledge) (site : ℕ) 
       let c = nothing_cut l.old s was.stands l.done.0 in
       let all : IsSiteOf names site to s = same_site_of names site l.new to s (same_site_of names site l.old l.new s was l.done.1) l.after in
       record {
-        gives = ap (λ x. x.1) (happens_known names w (event.Cut site) s knows) ∙ ap (λ (a : SiteKnowledge × Outcome). outcome.Cut (frame_told (length w.pool) a.1)) c;
+        gives = ap (λ x. x.1) (happens_known names w (event.Cut site) s knows) ∙ ap (λ (a : SiteKnowledge × Outcome). outcome.Cut (frame_result (length w.pool) a.1)) c;
         is = subst (λ (a : SiteKnowledge × Outcome). IsSiteOf names site to a.0) (sym c) all;
         added = ap (λ (a : SiteKnowledge × Outcome). entries_of site a.1) c;
       }
@@ -122,7 +122,7 @@ module _ (names : List (List ℕ)) (w : World) (s : SiteKnowledge) (site : ℕ) 
       let c = take_meant l.old found.spelling.frame.delta s found.entry.carried was.stands found.spelling.says l.new deed.may deed.taken later in
       record {
         gives = (
-          ap (λ x. x.1) (happens_known names w (event.Take site place) s knows) ∙ ap (λ o. (taken s o).outcome) found.is ∙ ap (λ o. outcome.Took (take_told o)) c.1,
+          ap (λ x. x.1) (happens_known names w (event.Take site place) s knows) ∙ ap (λ o. (taken s o).outcome) found.is ∙ ap (λ o. outcome.Took (take_result o)) c.1,
           found,
         );
         is = subst (λ o. IsSiteOf names site to (taken s o).site) (sym found.is)
@@ -146,17 +146,17 @@ module _ (names : List (List ℕ)) (w : World) (s : SiteKnowledge) (site : ℕ) 
           → StandsFor l.new (step l.old.site l.old.names s (Do (change_of command))).0 × (result ≡ result_of (step l.old.site l.old.names s (Do (change_of command))).1)
           → l.new.site ≡ l.old.site → l.new.names ≡ l.old.names
           → ((answer_in site names s (ask.Command command)).1 ≡ answer) × IsSiteOf names site l.new (answer_in site names s (ask.Command command)).0
-      done command result told c number list =
+      done command result reported c number list =
           let at : step l.old.site l.old.names s (Do (change_of command)) ≡ step site names s (Do (change_of command)) =
           ap (λ n. step n l.old.names s (Do (change_of command))) was.site ∙ ap (λ n. step site n s (Do (change_of command))) was.names_are in (
-            sym (told ∙ ap answer_of c.1 ∙ ap (λ (x : SiteKnowledge × Outcome). answer_of (result_of x.1)) at),
+            sym (reported ∙ ap answer_of c.1 ∙ ap (λ (x : SiteKnowledge × Outcome). answer_of (result_of x.1)) at),
             record { site = number ∙ was.site; names_are = list ∙ was.names_are; stands = subst (λ (x : SiteKnowledge × Outcome). StandsFor l.new x.0) at c.0 },
           )
 
       by : (a : Ask) → IsAsked l.old a answer l.new → ((answer_in site names s a).1 ≡ answer) × IsSiteOf names site l.new (answer_in site names s a).0
-      by (ask.Command command) (result, told, some, inl follows) =
+      by (ask.Command command) (result, reported, some, inl follows) =
           let kept = follows_site l.old l.new (meaning_at l.old (change_of command)) result follows in
-          done command result told (follows_means l.old l.new s (change_of command) result was.stands follows) kept.0 kept.1
-      by (ask.Command command) (result, told, some, inr none) = absurd (some none.1)
+          done command result reported (follows_means l.old l.new s (change_of command) result was.stands follows) kept.0 kept.1
+      by (ask.Command command) (result, reported, some, inr none) = absurd (some none.1)
       by (ask.Status request) h =
           (sym (h.0 ∙ ap Report (report_is l.old s was.stands request ∙ ap (λ n. status_in s.known n request) was.names_are)), same_site_of names site l.old l.new s was h.1)

@@ -37,13 +37,13 @@ pub record IsSpelledAt (pool : List Entry) (place : ℕ) (bytes : List ℕ) : Ty
 -- event `e` in world `w` makes an entry whose frame `bytes` spell
 pub record MakesBytes (names : List (List ℕ)) (w : World) (e : Event) (bytes : List ℕ) : Type 0 where
   pub place : ℕ
-  pub told : (happens names w e).1 ≡ outcome.Cut (Ok (Some place))
+  pub outcome : (happens names w e).1 ≡ outcome.Cut (Ok (Some place))
   pub spelled : IsSpelledAt (happens names w e).0.pool place bytes
 
 -- event `e` in world `w` gives its site this deed: the ask has this answer; the frame that was taken, or made, is the one that the
 -- bytes spell
 abbrev pub GivesDeed : List (List ℕ) → World → Event → StepDeed → Type 0
-GivesDeed names w (event.Ask site asked) (Asked told answer) = (told ≡ asked) × ((happens names w (event.Ask site asked)).1 ≡ outcome.Answered answer)
+GivesDeed names w (event.Ask site asked) (Asked other answer) = (other ≡ asked) × ((happens names w (event.Ask site asked)).1 ≡ outcome.Answered answer)
 GivesDeed names w (event.Take site place) (Took bytes) = ((happens names w (event.Take site place)).1 ≡ outcome.Took (Ok tt)) × IsSpelledAt w.pool place bytes
 GivesDeed names w (event.Cut site) (Cut None) = (happens names w (event.Cut site)).1 ≡ outcome.Cut (Ok None)
 GivesDeed names w (event.Cut site) (Cut (Some bytes)) = MakesBytes names w (event.Cut site) bytes

@@ -9,20 +9,20 @@ use Rattle.status_report.specs.declared.asks.Answer.{Answer}
 use Rattle.status_report.specs.declared.asks.Ask.{Ask}
 
 pub asked_of : (old : SiteState) (asked : Ask) (new : SiteState) (deed : StepDeed) → IsAnswerTo old asked new deed → (answer : Answer) × (deed ≡ Asked asked answer)
-asked_of old asked new (Asked told answer) is = (answer, ap (λ x. Asked x answer) is.0)
+asked_of old asked new (Asked reported answer) is = (answer, ap (λ x. Asked x answer) is.0)
 asked_of old asked new (Took bytes) is = absurd is
 asked_of old asked new (Cut bytes) is = absurd is
 asked_of old asked new (Whole bytes) is = absurd is
 
 pub cut_of : (deed : StepDeed) → IsStepOfCut deed → (frame : Option (List ℕ)) × (deed ≡ Cut frame)
 cut_of (Cut bytes) is = (bytes, refl)
-cut_of (Asked told answer) is = absurd is
+cut_of (Asked reported answer) is = absurd is
 cut_of (Took bytes) is = absurd is
 cut_of (Whole bytes) is = absurd is
 
 pub whole_of : (deed : StepDeed) → IsStepOfWhole deed → (frame : List ℕ) × (deed ≡ Whole frame)
 whole_of (Whole bytes) is = (bytes, refl)
-whole_of (Asked told answer) is = absurd is
+whole_of (Asked reported answer) is = absurd is
 whole_of (Took bytes) is = absurd is
 whole_of (Cut bytes) is = absurd is
 

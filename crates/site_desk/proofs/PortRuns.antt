@@ -7,7 +7,7 @@ use Rattle.site_journal.specs.Ports.{PortRun, PortStop, PortWork}
 use Rattle.site_journal.specs.declared.desk_fault.DeskFault.{DeskFault}
 use Rattle.site_journal.specs.declared.receipt.Receipt.{Receipt}
 use Rattle.site_desk.specs.Deeds.{IsPossibleSomewhere}
-use Rattle.site_desk.specs.Passes.{HasDone, PassState, TellsTruly}
+use Rattle.site_desk.specs.Passes.{HasDone, PassState, RewoundIsBelow}
 use Rattle.site_desk.specs.Ports.{Ascend, HasDoneAll, MakesByPass, RefusesByPass, WorksByPass}
 use Rattle.site_desk.specs.declared.desk_port.DeskPort.{DeskPort}
 
@@ -53,17 +53,17 @@ still {L = L} site names p q old receipts cause stop works = ⊎_elim
     (λ same. subst (λ (x : DeskPort L). WorksByPass site names old receipts x.pass) same.1 works) stop
 
 -- a length in a fault is less than the pass that it leaves has seen
-truly : {L : Type 0} (p q : DeskPort L) (cause : DeskFault) → PortStop (λ (old : DeskPort L) cause (new : DeskPort L). RefusesByPass old.pass cause new.pass) p cause q → TellsTruly q.pass.now cause
+truly : {L : Type 0} (p q : DeskPort L) (cause : DeskFault) → PortStop (λ (old : DeskPort L) cause (new : DeskPort L). RefusesByPass old.pass cause new.pass) p cause q → RewoundIsBelow q.pass.now cause
 truly p q cause stop = ⊎_elim
-    (λ refused. subst (λ state. TellsTruly state cause) (sym refused.unchanged) refused.told)
-    (λ memory. subst (TellsTruly q.pass.now) (sym memory.0) tt) stop
+    (λ refused. subst (λ state. RewoundIsBelow state cause) (sym refused.unchanged) refused.rewound)
+    (λ memory. subst (RewoundIsBelow q.pass.now) (sym memory.0) tt) stop
 
 -- the fault by which a port was stopped
-pub port_told : {L : Type 0} (site : ℕ) (names : List (List ℕ)) (p q : DeskPort L) (receipts : List Receipt) (fault : Option DeskFault)
+pub port_rewound : {L : Type 0} (site : ℕ) (names : List (List ℕ)) (p q : DeskPort L) (receipts : List Receipt) (fault : Option DeskFault)
     → PortWork (λ (old : DeskPort L) receipt (new : DeskPort L). MakesByPass site names old.pass receipt new.pass) (λ (old : DeskPort L) cause (new : DeskPort L). RefusesByPass old.pass cause new.pass) p receipts fault q
-    → (cause : DeskFault) → fault ≡ Some cause → TellsTruly q.pass.now cause
-port_told site names p q receipts None work cause is = absurd (cc)
-port_told site names p q receipts (Some told) work cause is = let same : told ≡ cause = cc is in subst (TellsTruly q.pass.now) same (truly work.0 q told work.2)
+    → (cause : DeskFault) → fault ≡ Some cause → RewoundIsBelow q.pass.now cause
+port_rewound site names p q receipts None work cause is = absurd (cc)
+port_rewound site names p q receipts (Some reported) work cause is = let same : reported ≡ cause = cc is in subst (RewoundIsBelow q.pass.now) same (truly work.0 q reported work.2)
 
 -- a port that has worked
 pub port_work : {L : Type 0} (site : ℕ) (names : List (List ℕ)) (p q : DeskPort L) (receipts : List Receipt) (fault : Option DeskFault)

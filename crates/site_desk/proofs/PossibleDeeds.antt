@@ -55,7 +55,7 @@ answered_receipt base asked ordinal pass old new (Err fault) reached seen added 
 
 -- an ask that is answered at some state is a deed of that state
 pub deed_of_answer : (site : ℕ) (names : List (List ℕ)) (asked : Ask) (deed : StepDeed) → IsAnsweredSomewhere site names asked deed → IsPossibleSomewhere site names deed
-deed_of_answer site names asked (Asked told answer) is = record {
+deed_of_answer site names asked (Asked reported answer) is = record {
   old = is.old;
   new = is.new;
   site_is = is.site_is;

@@ -54,9 +54,9 @@ IsRewound pass (Rewound len) = len < pass.seen
 IsRewound pass other = ⊥
 
 -- a fault has no length of the journal, or one that is less than `pass` has seen
-abbrev pub TellsTruly : PassState → DeskFault → Type 0
-TellsTruly pass (Rewound len) = len < pass.seen
-TellsTruly pass other = ⊤
+abbrev pub RewoundIsBelow : PassState → DeskFault → Type 0
+RewoundIsBelow pass (Rewound len) = len < pass.seen
+RewoundIsBelow pass other = ⊤
 
 -- `passes` are those of a new desk: `number` of them, with the numbers 0, 1, .., none of which has
 -- done anything

@@ -5,7 +5,7 @@ use Rattle.std.specs.Prelude.{ℕ, ◌≡◌, ◌≤◌, ◌+◌, List, [], ◌�
 use Rattle.site_journal.specs.declared.desk_fault.DeskFault.{DeskFault}
 use Rattle.site_journal.specs.declared.receipt.Receipt.{Receipt}
 use Rattle.site_desk.specs.Deeds.{IsPossibleSomewhere}
-use Rattle.site_desk.specs.Passes.{HasDone, PassState, TellsTruly}
+use Rattle.site_desk.specs.Passes.{HasDone, PassState, RewoundIsBelow}
 use Rattle.site_desk.specs.declared.desk_port.DeskPort.{DeskPort}
 
 -- the pass that the port of a desk has borrowed
@@ -27,7 +27,7 @@ pub record MakesByPass (site : ℕ) (names : List (List ℕ)) (old : MutBor Pass
 -- seen
 pub record RefusesByPass (old : MutBor PassState) (fault : DeskFault) (new : MutBor PassState) : Type 0 where
   pub unchanged : new.now ≡ old.now
-  pub told : TellsTruly old.now fault
+  pub rewound : RewoundIsBelow old.now fault
   pub same : new.ghost_name ≡ old.ghost_name
 
 -- the positions of receipts ascend, from the journal's length `seen` before the first of them to

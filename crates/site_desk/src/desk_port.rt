@@ -61,7 +61,7 @@ impl<'a, L: SiteLedger, R: Wait> Port<R> for DeskPort<'a, L> {
         ensures well { IfOk result (λ receipt. last_fault self.new ≡ None) }
         ensures kept { IfErr result (λ cause.
             (lent_pass self.new).now.share ≡ (lent_pass self.old).now.share) }
-        ensures told { IfErr result (λ cause. last_fault self.new ≡ Some cause) }
+        ensures recorded { IfErr result (λ cause. last_fault self.new ≡ Some cause) }
         ensures possible { IfOk result (λ receipt.
             IsPossibleSomewhere L.site L.names receipt.deed) }
         ensures only { IfErr result (λ cause. IsRewound (lent_pass self.old).now cause
@@ -97,7 +97,7 @@ impl<'a, L: SiteLedger, R: Wait> Port<R> for DeskPort<'a, L> {
         ensures well { IfOk result (λ receipt. last_fault self.new ≡ None) }
         ensures kept { IfErr result (λ cause.
             (lent_pass self.new).now.share ≡ (lent_pass self.old).now.share) }
-        ensures told { IfErr result (λ cause. last_fault self.new ≡ Some cause) }
+        ensures recorded { IfErr result (λ cause. last_fault self.new ≡ Some cause) }
         ensures possible { IfOk result (λ receipt.
             IsPossibleSomewhere L.site L.names receipt.deed) }
         ensures only { IfErr result (λ cause. IsRewound (lent_pass self.old).now cause
@@ -135,7 +135,7 @@ impl<'a, L: SiteLedger, R: Wait> Port<R> for DeskPort<'a, L> {
         ensures back { IfErr result (λ refused. refused.1 ≡ bytes) }
         ensures kept { IfErr result (λ refused.
             (lent_pass self.new).now.share ≡ (lent_pass self.old).now.share) }
-        ensures told { IfErr result (λ refused. last_fault self.new ≡ Some refused.0) }
+        ensures recorded { IfErr result (λ refused. last_fault self.new ≡ Some refused.0) }
         ensures possible { IfOk result (λ receipt.
             IsPossibleSomewhere L.site L.names receipt.deed) }
         ensures decode { (fault : DecodeFault) → IsRefusedFor result (DeskFault.Decode fault)

@@ -3,7 +3,7 @@ ghost use Rattle.std.specs.Prelude.{◌≡◌, List, Option, Some};
 ghost use Rattle.site_journal.specs.Ports.{PortWork};
 ghost use Rattle.site_journal.specs.declared.desk_fault.DeskFault.{DeskFault};
 ghost use Rattle.site_journal.specs.declared.receipt.Receipt.{Receipt};
-ghost use Rattle.site_desk.specs.Passes.{TellsTruly};
+ghost use Rattle.site_desk.specs.Passes.{RewoundIsBelow};
 ghost use Rattle.site_desk.specs.Ports.{MakesByPass, RefusesByPass, WorksByPass, lent_pass};
 ghost use Rattle.site_desk.specs.declared.desk_port.DeskPort.{DeskPort};
 
@@ -19,10 +19,10 @@ pub fn a_port_works_by_its_pass<L: SiteLedger>()
         (λ from cause to. RefusesByPass (lent_pass from) cause (lent_pass to))
         old receipts fault new
         → WorksByPass L.site L.names (lent_pass old) receipts (lent_pass new) }
-    ensures told { (old new : DeskPort L) (receipts : List Receipt) (fault : Option DeskFault)
+    ensures rewound { (old new : DeskPort L) (receipts : List Receipt) (fault : Option DeskFault)
         → PortWork
         (λ from receipt to. MakesByPass L.site L.names (lent_pass from) receipt (lent_pass to))
         (λ from cause to. RefusesByPass (lent_pass from) cause (lent_pass to))
         old receipts fault new
-        → (cause : DeskFault) → fault ≡ Some cause → TellsTruly (lent_pass new).now cause }
+        → (cause : DeskFault) → fault ≡ Some cause → RewoundIsBelow (lent_pass new).now cause }
 {}

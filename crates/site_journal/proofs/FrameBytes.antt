@@ -31,5 +31,5 @@ more_follow bytes front frame spelled =
 
 -- bytes that have a fault, or whose decoding ran out of memory, have it as one frame, and then spell none
 pub fault_alone : (bytes : List ℕ) (fault : DecodeFault) → AreBytes bytes → (fault ≡ Memory) ⊎ HasFault bytes fault → (fault ≡ Memory) ⊎ (HasFaultAlone bytes fault × SpellNoFrame bytes)
-fault_alone bytes fault each (inl wanting) = inl wanting
+fault_alone bytes fault each (inl no_memory) = inl no_memory
 fault_alone bytes fault each (inr has) = inr (inl has, λ frame spelled. not_both_of bytes each (begins bytes frame spelled) (record { fault = fault; has = has }))

@@ -35,7 +35,7 @@ use Rattle.site_journal.specs.Replaying.{IsAgain}
 -- a command that doesn't run out of memory follows its meaning
 follows : (old : SiteState) (meant : Meaning) (new : SiteState) (result : Result (Unit {0}) Refusal) → result ≢ Err Memory → IsDone old meant new result → Follows old meant new result
 follows old meant new result some (inl f) = f
-follows old meant new result some (inr wanting) = absurd (some wanting.1)
+follows old meant new result some (inr no_memory) = absurd (some no_memory.1)
 
 -- sites that say the same answer an ask the same
 one_answer : (s t new after : SiteState) (asked : Ask) (a b : Answer) → IsSameSite s t → IsAsked s asked a new → IsAsked t asked b after → a ≡ b
@@ -89,10 +89,10 @@ take_comes s to bytes desk_fault.JournalFull leads decode refused only = inl ref
 take_comes s to bytes desk_fault.Memory leads decode refused only = inr refl
 take_comes s to bytes (desk_fault.Decode f) leads decode refused only = absurd (decode f refl leads.done.frame leads.done.spelled)
 take_comes s to bytes (desk_fault.Take f) leads decode refused only =
-    let told = refused f refl in
-    let same = (one_frame leads.done.frame told.frame bytes leads.done.spelled told.spelled).delta in
+    let reported = refused f refl in
+    let same = (one_frame leads.done.frame reported.frame bytes leads.done.spelled reported.spelled).delta in
     let may = may_same leads.old s (site_turned s leads.old leads.before) leads.done.frame.delta leads.done.done.may in
-    absurd (not_refused s told.frame.delta f only (may_take_same leads.done.frame.delta told.frame.delta same s may) told.refused)
+    absurd (not_refused s reported.frame.delta f only (may_take_same leads.done.frame.delta reported.frame.delta same s may) reported.refused)
 take_comes s to bytes desk_fault.Exhausted leads decode refused only = absurd only
 take_comes s to bytes (desk_fault.Rewound len) leads decode refused only = absurd only
 take_comes s to bytes desk_fault.Unsaved leads decode refused only = absurd only

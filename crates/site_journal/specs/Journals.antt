@@ -103,7 +103,7 @@ pub record HasDropped (old new : JournalState) : Type 0 where
 
 -- a deed is the ask `asked` with the site's answer to it in state `old`, which isn't out of memory and led it to `new`
 abbrev pub IsAnswerTo : SiteState → Ask → SiteState → StepDeed → Type 0
-IsAnswerTo old asked new (Asked told answer) = (told ≡ asked) × IsAsked old asked answer new
+IsAnswerTo old asked new (Asked other answer) = (other ≡ asked) × IsAsked old asked answer new
 IsAnswerTo old asked new other = ⊥
 
 -- a deed is a cut, of a frame or of an empty buffer

@@ -18,7 +18,7 @@ pub record CanCome (j : JournalState) (step : Step) : Type 0 where
 
 -- a deed does what another did: the same ask, the take of the same bytes, a cut or a whole
 abbrev pub IsAgain : StepDeed → StepDeed → Type 0
-IsAgain (Asked asked answer) (Asked other told) = other ≡ asked
+IsAgain (Asked asked answer) (Asked other other_answer) = other ≡ asked
 IsAgain (Took bytes) (Took other) = other ≡ bytes
 IsAgain (Cut bytes) (Cut other) = ⊤
 IsAgain (Whole bytes) (Whole other) = ⊤

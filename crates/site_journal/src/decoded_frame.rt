@@ -50,10 +50,10 @@ fn frame_in(alloc: Global, bytes: &[u8]) -> Result<Frame, DecodeFault>
 
 // The fault of a step for bytes that are no frame: `Memory` stays, and every other one is a `Decode`.
 fn decode_fault(fault: DecodeFault) -> DeskFault
-    ensures decode { (told : DecodeFault) → result ≡ DeskFault.Decode told
-        → (fault ≡ told) × (fault ≢ DecodeFault.Memory) }
+    ensures decode { (cause : DecodeFault) → result ≡ DeskFault.Decode cause
+        → (fault ≡ cause) × (fault ≢ DecodeFault.Memory) }
     ensures memory { result ≡ DeskFault.Memory → fault ≡ DecodeFault.Memory }
-    ensures no_take { (told : TakeFault) → result ≢ DeskFault.Take told }
+    ensures no_take { (cause : TakeFault) → result ≢ DeskFault.Take cause }
     ensures only { RefusesTake result }
     ensures no_full { result ≢ DeskFault.JournalFull }
 {

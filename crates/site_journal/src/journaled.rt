@@ -105,9 +105,9 @@ fn whole_twice(alloc: Global, replica: &mut Replica) -> Result<(SharedBytes, Sha
 
 // The fault of a step for a take that fails: `Memory` stays, and every other one is a `Take`.
 fn take_fault(fault: TakeFault) -> DeskFault
-    ensures take { (told : TakeFault) → result ≡ DeskFault.Take told → fault ≡ told }
+    ensures take { (cause : TakeFault) → result ≡ DeskFault.Take cause → fault ≡ cause }
     ensures only { RefusesTake result }
-    ensures no_decode { (told : DecodeFault) → result ≢ DeskFault.Decode told }
+    ensures no_decode { (cause : DecodeFault) → result ≢ DeskFault.Decode cause }
     ensures no_full { result ≢ DeskFault.JournalFull }
 {
     match fault {

@@ -39,7 +39,7 @@ pub trait Port<R> {
         ensures counted { IfOk result (λ receipt. share self.new ≡ share self.old + 1) }
         ensures well { IfOk result (λ receipt. fault self.new ≡ None) }
         ensures kept { IfErr result (λ cause. share self.new ≡ share self.old) }
-        ensures told { IfErr result (λ cause. fault self.new ≡ Some cause) };
+        ensures recorded { IfErr result (λ cause. fault self.new ≡ Some cause) };
 
     /// Puts everything that the site knows into its next frame, and returns the receipt. The errors are those of the desk.
     fn whole(&mut self, rt: &R) -> Result<Receipt, DeskFault>
@@ -51,7 +51,7 @@ pub trait Port<R> {
         ensures counted { IfOk result (λ receipt. share self.new ≡ share self.old + 1) }
         ensures well { IfOk result (λ receipt. fault self.new ≡ None) }
         ensures kept { IfErr result (λ cause. share self.new ≡ share self.old) }
-        ensures told { IfErr result (λ cause. fault self.new ≡ Some cause) };
+        ensures recorded { IfErr result (λ cause. fault self.new ≡ Some cause) };
 
     /// Lets the site take the frame that the bytes encode, and returns the receipt. The errors are those of the desk, and each
     /// returns the bytes too.
@@ -65,7 +65,7 @@ pub trait Port<R> {
         ensures well { IfOk result (λ receipt. fault self.new ≡ None) }
         ensures back { IfErr result (λ refused. refused.1 ≡ bytes) }
         ensures kept { IfErr result (λ refused. share self.new ≡ share self.old) }
-        ensures told { IfErr result (λ refused. fault self.new ≡ Some refused.0) };
+        ensures recorded { IfErr result (λ refused. fault self.new ≡ Some refused.0) };
 }
 
 /// Signals a pump to cut.

@@ -57,8 +57,8 @@ impl StepDeed {
         ensures { IsTrue result ↔ (self.now ≡ other.now) }
     {
         match (self, other) {
-            (StepDeed::Asked(asked, answer), StepDeed::Asked(others, told)) => {
-                asked.same(others) && answer.same(told)
+            (StepDeed::Asked(asked, answer), StepDeed::Asked(others, other_answer)) => {
+                asked.same(others) && answer.same(other_answer)
             }
             (StepDeed::Took(bytes), StepDeed::Took(others)) => bytes.same(others),
             (StepDeed::Cut(None), StepDeed::Cut(None)) => true,

@@ -25,11 +25,11 @@ run_more Makes start port next receipts room all receipt is same run made = run_
 pub work_refused : {P : Type 0} (Makes : P → Receipt → P → Type 0) (Refuses : P → DeskFault → P → Type 0) (start port next : P) (receipts : List Receipt) (cause : DeskFault) → PortRun Makes start receipts port → Refuses port cause next → PortWork Makes Refuses start receipts (Some cause) next
 work_refused Makes Refuses start port next receipts cause run refused = (port, run, inl refused)
 
--- a port that isn't called, for want of memory
+-- a port that isn't called, when out of memory
 pub work_stopped : {P : Type 0} (Makes : P → Receipt → P → Type 0) (Refuses : P → DeskFault → P → Type 0) (start port : P) (receipts : List Receipt) (cause : DeskFault) → cause ≡ Memory → PortRun Makes start receipts port → PortWork Makes Refuses start receipts (Some cause) port
 work_stopped Makes Refuses start port receipts cause memory run = (port, run, inr (memory, refl))
 
--- what want of memory has stopped
+-- a property of each fault, where the one fault is out of memory
 pub if_memory : {T : Type 0} (result : Result T DeskFault) (Q : DeskFault → Type 0) → IfErr result (λ cause. cause ≡ Memory) → ((cause : DeskFault) → cause ≡ Memory → Q cause) → IfErr result Q
 if_memory (Ok x) Q memory then = tt
 if_memory (Err cause) Q memory then = then cause memory

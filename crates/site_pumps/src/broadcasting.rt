@@ -48,7 +48,7 @@ fn make_frame<R, P: Port<R>>(rt: &R, port: &mut P, kind: FrameKind) -> Result<Re
     ensures counted { IfOk result (λ receipt. P.share port.new ≡ P.share port.old + 1) }
     ensures well { IfOk result (λ receipt. P.fault port.new ≡ None) }
     ensures kept { IfErr result (λ cause. P.share port.new ≡ P.share port.old) }
-    ensures told { IfErr result (λ cause. P.fault port.new ≡ Some cause) }
+    ensures recorded { IfErr result (λ cause. P.fault port.new ≡ Some cause) }
 {
     match kind {
         FrameKind::Changes => port.cut(rt),

@@ -133,9 +133,9 @@ run_grows names w [] = grown_itself w
 run_grows names w (e ∷ es) = grown_through w (happens names w e).0 (run names (happens names w e).0 es).0 (event_grows names w e) (run_grows names (happens names w e).0 es)
 
 pub taken_stays : TakenStaysKnown
-taken_stays names w site place entry later t told found now o here =
+taken_stays names w site place entry later t reported found now o here =
     let after = (happens names w (event.Take site place)).0 in
-    let has = taken_gives names w site place told in
+    let has = taken_gives names w site place reported in
     let last = (run_grows names after later).known site has.now has.is in
     subst (λ v. Contains v.known o) (one_some last.0 t (sym last.1 ∙ now))
     (last.2 o (has.given o (subst (λ x. Contains x.carried o) (one_some entry has.entry (sym found ∙ has.carried)) here)))

@@ -302,7 +302,7 @@ taken_stays_said from to site place frame new later outcomes found (mid, first, 
         not_there : Took (Ok tt) ≡ NoSite → ⊥
         not_there e = (cc)
     by (Some old) here at =
-        let told = subst (λ x. ComesOfEntry x old (Took (Ok tt)) at.new) found at.comes.comes.0 in
+        let reported = subst (λ x. ComesOfEntry x old (Took (Ok tt)) at.new) found at.comes.comes.0 in
         let there = ap (λ sites. slice_get sites site) at.sites ∙ get_set_same from.sites site at.new (slice_get_within from.sites site old here) in
         let grown = (lead_all_grows mid to later outcomes rest).sites.each site at.new new there now in
-        said_through frame.delta at.new.state new.state (took_says frame old at.new told) grown.state
+        said_through frame.delta at.new.state new.state (took_says frame old at.new reported) grown.state

@@ -16,8 +16,8 @@ use Rattle.sites_world.specs.declared.event.Event.TheVariants as event
 use Rattle.sites_world.specs.declared.outcome.Outcome.{Outcome}
 use Rattle.sites_world.specs.declared.outcome.Outcome.TheVariants.{Cut, NoEntry, NoSite, NoMemory}
 use Rattle.sites_world.specs.Histories.{HasHistory}
-use Rattle.sites_world.specs.Telling.{HasAddedFrame, HasHappenedAt, IsAnsweredSo, IsFramedSo, IsTakenSo, MayBeTaken, HasEntry}
-use Rattle.sites_world.specs.Worlds.{Entry, IsReached, World, answered, done_of, entries_of, framed, frame_told, happens, happens_at, happens_where, is_done, new_world, outcomes_of, run, site_of, taken, has_entry, is_there}
+use Rattle.sites_world.specs.SiteOutcomes.{HasAddedFrame, HasHappenedAt, IsAnsweredSo, IsFramedSo, IsTakenSo, MayBeTaken, HasEntry}
+use Rattle.sites_world.specs.Worlds.{Entry, IsReached, World, answered, done_of, entries_of, framed, frame_result, happens, happens_at, happens_where, is_done, new_world, outcomes_of, run, site_of, taken, has_entry, is_there}
 use Rattle.sites_world.specs.WorldStates.{Correspond, HasHappened, HaveHappened, IsFrameOf, IsSiteOf, IsWorld, StandsForWorld, WorldState, are_there}
 use Rattle.sites_world.proofs.KnownTogether.{in_parts}
 use Rattle.sites_world.proofs.Lists.{correspond_get, correspond_none, correspond_push, correspond_set, get_replicate, none_some, place_in, set_again, some_within}
@@ -35,7 +35,7 @@ pub framed_happened : (new : SiteState) (s : SiteKnowledge) (old pool : List Fra
 framed_happened new s old pool entries maker after o site c (inr none) = inr none
 framed_happened new s old pool entries maker after o site c (inl (e, stands, added)) = inl (
   ap is_done e,
-  ap (λ n. Cut (frame_told n after.1)) (sym c.lengths) ∙ sym e,
+  ap (λ n. Cut (frame_result n after.1)) (sym c.lengths) ∙ sym e,
   stands,
   grown after.1 added,
 )
@@ -118,9 +118,9 @@ module _ (names_of_queues : List (List ℕ)) (sites : List SiteState) (pool : Li
 
       by : HasHappenedAt new s pool grown w.pool (happens_at names_of_queues w.pool s e) o
           → HasHappened (record { names = names_of_queues; sites = slice_set sites (site_of e) new; pool = grown }) w e o
-      by (inl (is, told, known_so, carried)) = inl (
+      by (inl (is, reported, known_so, carried)) = inl (
         is,
-        ap (λ x. x.1) done ∙ told,
+        ap (λ x. x.1) done ∙ reported,
         subst (λ x. StandsForWorld (record { names = names_of_queues; sites = slice_set sites (site_of e) new; pool = grown }) x.0) (sym done)
             (record { sites = correspond_set (IsSiteOf names_of_queues) sites w.sites stands.sites (site_of e) new _ within (stands_there _ known_so); pool = carried }),
       )
@@ -216,8 +216,8 @@ module _ (names_of_queues : List (List ℕ)) (w : World) (es : List Event) (os :
       pushed : (b : Bool) → is_done o ≡ b → done_of (es ++ e ∷ []) (os ++ o ∷ []) ≡ done_of es os ++ (if b then e ∷ [] else [])
       pushed b is = done_push es os e o before.one_each ∙ ap (λ c. done_of es os ++ (if c then e ∷ [] else [])) is
 
-      told : (b : Bool) → is_done o ≡ b → outcomes_of (os ++ o ∷ []) ≡ outcomes_of os ++ (if b then o ∷ [] else [])
-      told b is = outcomes_push os o ∙ ap (λ c. outcomes_of os ++ (if c then o ∷ [] else [])) is
+      reported : (b : Bool) → is_done o ≡ b → outcomes_of (os ++ o ∷ []) ≡ outcomes_of os ++ (if b then o ∷ [] else [])
+      reported b is = outcomes_push os o ∙ ap (λ c. outcomes_of os ++ (if c then o ∷ [] else [])) is
 
       by : HasHappened new (run names_of_queues w (done_of es os)).0 e o → HaveHappened new w (es ++ e ∷ []) (os ++ o ∷ [])
       by (inl (is, outcome_is, stands)) =
@@ -226,7 +226,7 @@ module _ (names_of_queues : List (List ℕ)) (w : World) (es : List Event) (os :
           record {
             one_each = lengths;
             there = there_push names_of_queues w es os e o before.one_each before.there (λ undone. absurd (true≢false (sym is ∙ undone)));
-            outcomes_are = told true is ∙ (λ i. before.outcomes_are i ++ sym outcome_is i ∷ []) ∙ sym parts.outcomes ∙ ap (λ xs. (run names_of_queues w xs).1) (sym events);
+            outcomes_are = reported true is ∙ (λ i. before.outcomes_are i ++ sym outcome_is i ∷ []) ∙ sym parts.outcomes ∙ ap (λ xs. (run names_of_queues w xs).1) (sym events);
             stands = subst (StandsForWorld new) (sym parts.world ∙ ap (λ xs. (run names_of_queues w xs).0) (sym events)) stands;
           }
       by (inr (is, here, stands)) =
@@ -235,7 +235,7 @@ module _ (names_of_queues : List (List ℕ)) (w : World) (es : List Event) (os :
           record {
             one_each = lengths;
             there = there_push names_of_queues w es os e o before.one_each before.there (λ again. here);
-            outcomes_are = told false undone ∙ append-nil (outcomes_of os) ∙ before.outcomes_are ∙ ap (λ xs. (run names_of_queues w xs).1) (sym events);
+            outcomes_are = reported false undone ∙ append-nil (outcomes_of os) ∙ before.outcomes_are ∙ ap (λ xs. (run names_of_queues w xs).1) (sym events);
             stands = subst (λ xs. StandsForWorld new (run names_of_queues w xs).0) (sym events) stands;
           }
 

@@ -53,12 +53,12 @@ held_in state w d stands (Said place frame here is) =
 visible_of_member : (k : Knowledge) (m : Member) (dot : Dot) → Contains (dots_of (dot_view k) m) dot → IsVisibleDotOf k m dot
 visible_of_member k m dot here = record {
   visible = own_visible (dot_view k) m dot here;
-  member = told (member_of k dot) (passes (is_of (dot_view k) m) (in_order (visible_dots k)) dot here);
+  member = reported (member_of k dot) (passes (is_of (dot_view k) m) (in_order (visible_dots k)) dot here);
 }
   where
-    told : (found : Option Member) → option_map_or (eq_by_cmp member_cmp m) found false ≡ true → found ≡ Some m
-    told None h = absurd (true≢false (sym h))
-    told (Some n) h = ap Some (sym (exact_members m n (equal_of _ h)))
+    reported : (found : Option Member) → option_map_or (eq_by_cmp member_cmp m) found false ≡ true → found ≡ Some m
+    reported None h = absurd (true≢false (sym h))
+    reported (Some n) h = ap Some (sym (exact_members m n (equal_of _ h)))
 
 pub one_held : HoldOneDotASite
 one_held state d m is held dot other here there same =

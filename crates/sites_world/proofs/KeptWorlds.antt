@@ -9,7 +9,7 @@ use Rattle.status_report.specs.declared.asks.Ask.TheVariants.{Command as asked_c
 use Rattle.sites_world.specs.declared.event.Event.{Event}
 use Rattle.sites_world.specs.declared.event.Event.TheVariants as event
 use Rattle.sites_world.specs.declared.outcome.Outcome.{Outcome}
-use Rattle.sites_world.specs.Telling.{IsAsk}
+use Rattle.sites_world.specs.SiteOutcomes.{IsAsk}
 use Rattle.sites_world.specs.WithinLimits.{HasValuesWithinLimits, KnowsWithinLimits}
 use Rattle.sites_world.specs.Worlds.{IsReached, World, happens, new_world}
 use Rattle.sites_world.specs.WorldStates.{HasHappened, IsWorld, StandsForWorld, WorldState}

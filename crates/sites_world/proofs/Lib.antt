@@ -5,12 +5,12 @@ mod GrownHistories
 mod MadeHistories
 mod SteppedHistories
 mod KnownTogether
-mod ToldAnswers
+mod OutcomeAnswers
 mod MayTake
 mod Happenings
 mod KeptWorlds
 mod Unchanged
-mod ToldByConditions
+mod OutcomesByConditions
 mod NothingChanged
 mod OutcomeLaws
 mod TakenEntries

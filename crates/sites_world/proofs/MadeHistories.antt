@@ -120,12 +120,12 @@ module _ (names_of_queues : List (List ℕ)) (sites site : ℕ) (h : Knowledge) 
         there_too : Contains (all_asserted s.known) (earlier, member)
         there_too = asserted_there earlier member here (same ∙ at-site)
 
-        member_told : member_of s.known earlier ≡ Some member
-        member_told = member_is s.known earlier member there_too (λ n other. made.members earlier n member (asserted_part s.known h own.known (earlier, n) other) here)
+        member_reported : member_of s.known earlier ≡ Some member
+        member_reported = member_is s.known earlier member there_too (λ n other. made.members earlier n member (asserted_part s.known h own.known (earlier, n) other) here)
 
         by : (b : Bool) → is_named s.known earlier ≡ b → is_named s.known earlier ≡ true
         by true e = e
-        by false e = absurd (a.absent earlier (visible_from s.known earlier (is-asserted s.known earlier member there_too) e) member_told)
+        by false e = absurd (a.absent earlier (visible_from s.known earlier (is-asserted s.known earlier member there_too) e) member_reported)
 
     -- an add may be the next
     pub add_next : IsNext names_of_queues sites h o

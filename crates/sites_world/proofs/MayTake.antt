@@ -34,7 +34,7 @@ use Rattle.replica.specs.Steps.{SiteKnowledge}
 use Rattle.replica.specs.Taking.{HasDotPast, HasFieldPast, HasStampPast, HasStrangeMember, HasStrangeTotal, HasTotalPast, IsNotMine, IsWrittenPast, SpeaksOfStrangeQueue}
 use Rattle.replica.proofs.WrittenChanges.{one_of_greatest}
 use Rattle.sites_world.specs.Histories.{IsHistory, IsOf, IsPartOf, IsSiteIn, stamp_of}
-use Rattle.sites_world.specs.Telling.{MayBeTaken}
+use Rattle.sites_world.specs.SiteOutcomes.{MayBeTaken}
 use Rattle.sites_world.specs.WorldStates.{IsSiteOf}
 use Rattle.sites_world.proofs.Lists.{none_some}
 use Rattle.sites_world.proofs.Dots.{is-asserted}

@@ -22,7 +22,7 @@ use Rattle.sites_world.specs.Outcomes.{changes_nothing}
 use Rattle.sites_world.specs.Worlds.{site_of}
 use Rattle.sites_world.specs.WorldStates.{Correspond, IsUnchanged, WorldState}
 use Rattle.sites_world.proofs.Lists.{correspond_get}
-use Rattle.sites_world.proofs.ToldByConditions.{refused_follows}
+use Rattle.sites_world.proofs.OutcomesByConditions.{refused_follows}
 use Rattle.sites_world.proofs.Unchanged.{equal_unchanged, site_unchanged, sites_unchanged}
 
 -- ---- at one site

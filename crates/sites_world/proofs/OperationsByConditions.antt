@@ -37,9 +37,9 @@ use Rattle.sites_world.specs.declared.event.Event.TheVariants as event
 use Rattle.sites_world.specs.declared.outcome.Outcome.{Outcome}
 use Rattle.sites_world.specs.declared.outcome.Outcome.TheVariants.{Answered, Cut, NoEntry, NoMemory, NoSite, Took}
 use Rattle.sites_world.specs.Conditions.{ComesAt, ComesOfAsk, ComesOfCut, ComesOfDelta, ComesOfEntry, ComesOfWhole, EventsLead, EventLeads, LeadsWhere}
-use Rattle.sites_world.specs.Telling.{HasEntry, HasHappenedAt, IsAnsweredSo, IsFramedSo, IsTakenSo, MayBeTaken}
+use Rattle.sites_world.specs.SiteOutcomes.{HasEntry, HasHappenedAt, IsAnsweredSo, IsFramedSo, IsTakenSo, MayBeTaken}
 use Rattle.sites_world.specs.WithinLimits.{HasValuesWithinLimits}
-use Rattle.sites_world.specs.Worlds.{Entry, Happening, IsReached, World, answered, done_of, happens, happens_at, is_done, is_there, outcomes_of, run, site_of, take_told, taken}
+use Rattle.sites_world.specs.Worlds.{Entry, Happening, IsReached, World, answered, done_of, happens, happens_at, is_done, is_there, outcomes_of, run, site_of, take_result, taken}
 use Rattle.sites_world.specs.WorldStates.{Correspond, HasHappened, HaveHappened, IsFrameOf, IsWorld, StandsForWorld, WorldState, are_there}
 use Rattle.sites_world.proofs.GrowingStates.{at_grows, lead_all_grows, leads_grow}
 use Rattle.sites_world.proofs.Happenings.{asked_happened, at_site_happened, framed_happened, may_take_all, missing_happened, no_site_happened, none_happened, reached_more, taken_found, taken_happened}
@@ -47,7 +47,7 @@ use Rattle.sites_world.proofs.KeptWorlds.{world_after_event}
 use Rattle.sites_world.proofs.Lists.{at_least, correspond_get, correspond_none_get, some_within}
 use Rattle.sites_world.proofs.MayTake.{may_take}
 use Rattle.sites_world.proofs.SteppedHistories.{reached_history}
-use Rattle.sites_world.proofs.ToldAnswers.{told_frame}
+use Rattle.sites_world.proofs.OutcomeAnswers.{reported_frame}
 
 -- the laws of one site of which the others follow: what is done at a replica is the step of the site that it stands for, be it done or refused, and its report is the
 -- status text of what that knows
@@ -91,21 +91,21 @@ module _ (laws : StandForSteps) where
   -- ---- at one site
 
   -- the conditions of an ask give its answer in the world of operations
-  ask_told : (old new : SiteState) (s : SiteKnowledge) (asked : Ask) (o : Outcome) → StandsFor old s → ComesOfAsk old asked o new → IsAnsweredSo new s (answer_in old.site old.names s asked) o
-  ask_told old new s (asked_command command) (Answered answer) stands (result, is, follows) =
+  ask_reported : (old new : SiteState) (s : SiteKnowledge) (asked : Ask) (o : Outcome) → StandsFor old s → ComesOfAsk old asked o new → IsAnsweredSo new s (answer_in old.site old.names s asked) o
+  ask_reported old new s (asked_command command) (Answered answer) stands (result, is, follows) =
       let after = laws.command old new s (change_of command) result stands follows in inl (ap Answered (is ∙ ap answer_of after.1), after.0)
-  ask_told old new s (asked_command command) NoMemory stands comes = inr (refl, unchanged_stands old new s stands comes.0)
-  ask_told old new s (asked_command command) (Cut r) stands comes = absurd comes
-  ask_told old new s (asked_command command) (Took r) stands comes = absurd comes
-  ask_told old new s (asked_command command) NoSite stands comes = absurd comes
-  ask_told old new s (asked_command command) NoEntry stands comes = absurd comes
-  ask_told old new s (Status request) (Answered answer) stands (is, same) =
+  ask_reported old new s (asked_command command) NoMemory stands comes = inr (refl, unchanged_stands old new s stands comes.0)
+  ask_reported old new s (asked_command command) (Cut r) stands comes = absurd comes
+  ask_reported old new s (asked_command command) (Took r) stands comes = absurd comes
+  ask_reported old new s (asked_command command) NoSite stands comes = absurd comes
+  ask_reported old new s (asked_command command) NoEntry stands comes = absurd comes
+  ask_reported old new s (Status request) (Answered answer) stands (is, same) =
       inl (ap Answered (is ∙ ap Report (laws.report old s request stands)), subst (λ (t : SiteState). StandsFor t s) (sym same) stands)
-  ask_told old new s (Status request) NoMemory stands comes = inr (refl, unchanged_stands old new s stands comes)
-  ask_told old new s (Status request) (Cut r) stands comes = absurd comes
-  ask_told old new s (Status request) (Took r) stands comes = absurd comes
-  ask_told old new s (Status request) NoSite stands comes = absurd comes
-  ask_told old new s (Status request) NoEntry stands comes = absurd comes
+  ask_reported old new s (Status request) NoMemory stands comes = inr (refl, unchanged_stands old new s stands comes)
+  ask_reported old new s (Status request) (Cut r) stands comes = absurd comes
+  ask_reported old new s (Status request) (Took r) stands comes = absurd comes
+  ask_reported old new s (Status request) NoSite stands comes = absurd comes
+  ask_reported old new s (Status request) NoEntry stands comes = absurd comes
 
   module _ (old new : SiteState) (s : SiteKnowledge) (pool added : List Frame) (stands : StandsFor old s) (queues : AreQueues old.names) where
     -- where nothing is changed the site stands for what it stood for
@@ -122,57 +122,57 @@ module _ (laws : StandForSteps) where
         subst (λ x. IsFramedSo new s pool (pool ++ added) x (Cut (Err Exhausted))) (sym is) (inl (refl, stands_still same, same_pool pool added none))
 
     -- the conditions of a cut give its outcome in the world of operations
-    cut_told : (o : Outcome) → MayBeTaken old s.buffer → ComesOfCut (length pool) old o new added → IsFramedSo new s pool (pool ++ added) (step old.site old.names s steps.Cut) o
-    cut_told (Cut (Ok None)) may (empty, same, none) = framed_nothing (step old.site old.names s steps.Cut) (laws.nothing old s stands empty) same none
-    cut_told (Cut (Ok (Some place))) may (at, frame, is, deed) =
+    cut_reported : (o : Outcome) → MayBeTaken old s.buffer → ComesOfCut (length pool) old o new added → IsFramedSo new s pool (pool ++ added) (step old.site old.names s steps.Cut) o
+    cut_reported (Cut (Ok None)) may (empty, same, none) = framed_nothing (step old.site old.names s steps.Cut) (laws.nothing old s stands empty) same none
+    cut_reported (Cut (Ok (Some place))) may (at, frame, is, deed) =
         let after = laws.cut old new frame s stands deed in
         let says = subst (λ d. IsDeltaOf d s.buffer) (sym deed.made.delta) stands.buffer in
         subst (λ n. IsFramedSo new s pool (pool ++ added) (step old.site old.names s steps.Cut) (Cut (Ok (Some n)))) (sym at)
-        (told_frame new s pool (pool ++ added) (step old.site old.names s steps.Cut) frame after.0 after.1 (deed.made.heading.maker ∙ sym deed.made.site)
+        (reported_frame new s pool (pool ++ added) (step old.site old.names s steps.Cut) frame after.0 after.1 (deed.made.heading.maker ∙ sym deed.made.site)
         (next_in_ranges old s.buffer frame queues deed.left deed.made.heading may says) (ap (λ frames. pool ++ frames) is))
-    cut_told (Cut (Err fault)) may (is, some, most, same, none) =
+    cut_reported (Cut (Err fault)) may (is, some, most, same, none) =
         subst (λ f. IsFramedSo new s pool (pool ++ added) (step old.site old.names s steps.Cut) (Cut (Err f))) (sym is) (framed_exhausted (step old.site old.names s steps.Cut) (laws.no_cut old s stands some most) same none)
-    cut_told NoMemory may (same, none) = inr (refl, stands_still same, same_pool pool added none)
-    cut_told (Answered answer) may comes = absurd comes
-    cut_told (Took r) may comes = absurd comes
-    cut_told NoSite may comes = absurd comes
-    cut_told NoEntry may comes = absurd comes
+    cut_reported NoMemory may (same, none) = inr (refl, stands_still same, same_pool pool added none)
+    cut_reported (Answered answer) may comes = absurd comes
+    cut_reported (Took r) may comes = absurd comes
+    cut_reported NoSite may comes = absurd comes
+    cut_reported NoEntry may comes = absurd comes
 
     -- the conditions of a whole give its outcome in the world of operations
-    whole_told : (o : Outcome) → MayBeTaken old s.known → ComesOfWhole (length pool) old o new added → IsFramedSo new s pool (pool ++ added) (step old.site old.names s steps.Whole) o
-    whole_told (Cut (Ok None)) may comes = absurd comes
-    whole_told (Cut (Ok (Some place))) may (at, frame, is, deed) =
+    whole_reported : (o : Outcome) → MayBeTaken old s.known → ComesOfWhole (length pool) old o new added → IsFramedSo new s pool (pool ++ added) (step old.site old.names s steps.Whole) o
+    whole_reported (Cut (Ok None)) may comes = absurd comes
+    whole_reported (Cut (Ok (Some place))) may (at, frame, is, deed) =
         let after = laws.whole old new frame s stands deed in
         let says = same_stands old.state frame.delta s.known deed.made.delta stands.known in
         subst (λ n. IsFramedSo new s pool (pool ++ added) (step old.site old.names s steps.Whole) (Cut (Ok (Some n)))) (sym at)
-        (told_frame new s pool (pool ++ added) (step old.site old.names s steps.Whole) frame after.0 after.1 (deed.made.heading.maker ∙ sym deed.made.site)
+        (reported_frame new s pool (pool ++ added) (step old.site old.names s steps.Whole) frame after.0 after.1 (deed.made.heading.maker ∙ sym deed.made.site)
         (next_in_ranges old s.known frame queues deed.left deed.made.heading may says) (ap (λ frames. pool ++ frames) is))
-    whole_told (Cut (Err fault)) may (is, most, same, none) =
+    whole_reported (Cut (Err fault)) may (is, most, same, none) =
         subst (λ f. IsFramedSo new s pool (pool ++ added) (step old.site old.names s steps.Whole) (Cut (Err f))) (sym is) (framed_exhausted (step old.site old.names s steps.Whole) (laws.no_whole old s stands most) same none)
-    whole_told NoMemory may (same, none) = inr (refl, stands_still same, same_pool pool added none)
-    whole_told (Answered answer) may comes = absurd comes
-    whole_told (Took r) may comes = absurd comes
-    whole_told NoSite may comes = absurd comes
-    whole_told NoEntry may comes = absurd comes
+    whole_reported NoMemory may (same, none) = inr (refl, stands_still same, same_pool pool added none)
+    whole_reported (Answered answer) may comes = absurd comes
+    whole_reported (Took r) may comes = absurd comes
+    whole_reported NoSite may comes = absurd comes
+    whole_reported NoEntry may comes = absurd comes
 
   -- the conditions of a take give its outcome in the world of operations
-  delta_told : (old new : SiteState) (s : SiteKnowledge) (d : DeltaState) (k : Knowledge) (o : Outcome) → StandsFor old s → IsDeltaOf d k → MayBeTaken old k → ComesOfDelta old d o new
+  delta_reported : (old new : SiteState) (s : SiteKnowledge) (d : DeltaState) (k : Knowledge) (o : Outcome) → StandsFor old s → IsDeltaOf d k → MayBeTaken old k → ComesOfDelta old d o new
       → IsTakenSo new s (steps.take s k) o
-  delta_told old new s d k (Took (Ok u)) stands says may deed =
-      let after = laws.take old new d s k stands says may.none_later deed in inl (ap (λ x. Took (take_told x)) (sym after.1), after.0)
-  delta_told old new s d k (Took (Err take_fault.CellsFull)) stands says may (joins, many, same) =
+  delta_reported old new s d k (Took (Ok u)) stands says may deed =
+      let after = laws.take old new d s k stands says may.none_later deed in inl (ap (λ x. Took (take_result x)) (sym after.1), after.0)
+  delta_reported old new s d k (Took (Err take_fault.CellsFull)) stands says may (joins, many, same) =
       subst (λ x. IsTakenSo new s x (Took (Err take_fault.CellsFull))) (sym (laws.cells_full old d s k stands says many)) (inl (refl, unchanged_stands old new s stands same))
-  delta_told old new s d k (Took (Err take_fault.RunsFull)) stands says may (joins, few, many, same) =
+  delta_reported old new s d k (Took (Err take_fault.RunsFull)) stands says may (joins, few, many, same) =
       subst (λ x. IsTakenSo new s x (Took (Err take_fault.RunsFull))) (sym (laws.runs_full old d s k stands says few many)) (inl (refl, unchanged_stands old new s stands same))
-  delta_told old new s d k (Took (Err take_fault.NoSuchQueue)) stands says may comes = absurd comes
-  delta_told old new s d k (Took (Err take_fault.NotMine)) stands says may comes = absurd comes
-  delta_told old new s d k (Took (Err take_fault.Conflict)) stands says may comes = absurd comes
-  delta_told old new s d k (Took (Err take_fault.Memory)) stands says may comes = absurd comes
-  delta_told old new s d k NoMemory stands says may comes = inr (refl, unchanged_stands old new s stands comes)
-  delta_told old new s d k (Answered answer) stands says may comes = absurd comes
-  delta_told old new s d k (Cut r) stands says may comes = absurd comes
-  delta_told old new s d k NoSite stands says may comes = absurd comes
-  delta_told old new s d k NoEntry stands says may comes = absurd comes
+  delta_reported old new s d k (Took (Err take_fault.NoSuchQueue)) stands says may comes = absurd comes
+  delta_reported old new s d k (Took (Err take_fault.NotMine)) stands says may comes = absurd comes
+  delta_reported old new s d k (Took (Err take_fault.Conflict)) stands says may comes = absurd comes
+  delta_reported old new s d k (Took (Err take_fault.Memory)) stands says may comes = absurd comes
+  delta_reported old new s d k NoMemory stands says may comes = inr (refl, unchanged_stands old new s stands comes)
+  delta_reported old new s d k (Answered answer) stands says may comes = absurd comes
+  delta_reported old new s d k (Cut r) stands says may comes = absurd comes
+  delta_reported old new s d k NoSite stands says may comes = absurd comes
+  delta_reported old new s d k NoEntry stands says may comes = absurd comes
 
   -- the conditions of an event at a site give its effect in the world of operations
   module _ (old new : SiteState) (s : SiteKnowledge) (pool : List Frame) (entries : List Entry) (stands : StandsFor old s) (queues : AreQueues old.names)
@@ -182,45 +182,45 @@ module _ (laws : StandForSteps) where
     nothing_more : (h : Happening) (o : Outcome) (added : List Frame) → added ≡ [] → HasHappenedAt new s pool pool entries h o → HasHappenedAt new s pool (pool ++ added) entries h o
     nothing_more h o added none = subst (λ grown. HasHappenedAt new s pool grown entries h o) (sym (same_pool pool added none))
 
-    entry_told : (place : ℕ) (found : Option Frame) (o : Outcome) → slice_get pool place ≡ found → ComesOfEntry found old o new
+    entry_reported : (place : ℕ) (found : Option Frame) (o : Outcome) → slice_get pool place ≡ found → ComesOfEntry found old o new
         → HasHappenedAt new s pool pool entries (taken s (slice_get entries place)) o
-    entry_told place None o here (is, same) =
+    entry_reported place None o here (is, same) =
         subst (λ found. HasHappenedAt new s pool pool entries (taken s found) o) (sym (correspond_none_get IsFrameOf pool entries corresponds place here))
         (subst (λ x. HasHappenedAt new s pool pool entries (taken s None) x) (sym is)
         (missing_happened new s pool entries corresponds (subst (λ (t : SiteState). StandsFor t s) (sym same) stands)))
-    entry_told place (Some frame) o here (copy, alike, comes) =
+    entry_reported place (Some frame) o here (copy, alike, comes) =
         let found = correspond_get IsFrameOf pool entries corresponds place frame here in
         let says = same_stands frame.delta copy found.0.carried alike found.2.delta in
         subst (λ x. HasHappenedAt new s pool pool entries (taken s x) o) (sym found.1)
-        (taken_happened new s pool entries found.0 o corresponds (delta_told old new s copy found.0.carried o stands says (may place found.0 found.1) comes))
+        (taken_happened new s pool entries found.0 o corresponds (delta_reported old new s copy found.0.carried o stands says (may place found.0 found.1) comes))
 
-    at_told : (e : Event) (o : Outcome) (added : List Frame) → old.site ≡ site_of e → ComesAt pool old e o new added
+    at_reported : (e : Event) (o : Outcome) (added : List Frame) → old.site ≡ site_of e → ComesAt pool old e o new added
         → HasHappenedAt new s pool (pool ++ added) entries (happens_at old.names entries s e) o
-    at_told (event.Ask site asked) o added at (comes, none) =
+    at_reported (event.Ask site asked) o added at (comes, none) =
         nothing_more (answered (answer_in site old.names s asked)) o added none
         (asked_happened new s pool entries (answer_in site old.names s asked) o corresponds
-        (subst (λ n. IsAnsweredSo new s (answer_in n old.names s asked) o) at (ask_told old new s asked o stands comes)))
-    at_told (event.Cut site) o added at comes =
+        (subst (λ n. IsAnsweredSo new s (answer_in n old.names s asked) o) at (ask_reported old new s asked o stands comes)))
+    at_reported (event.Cut site) o added at comes =
         framed_happened new s pool (pool ++ added) entries site (steps.cut s s.buffer) o ((at_grows pool old new (event.Cut site) o added comes).site ∙ at) corresponds
-        (cut_told old new s pool added stands queues o may_buffer comes)
-    at_told (event.Whole site) o added at comes =
+        (cut_reported old new s pool added stands queues o may_buffer comes)
+    at_reported (event.Whole site) o added at comes =
         framed_happened new s pool (pool ++ added) entries site (steps.after_frame s s.known s.buffer) o ((at_grows pool old new (event.Whole site) o added comes).site ∙ at) corresponds
-        (whole_told old new s pool added stands queues o may_known comes)
-    at_told (event.Take site place) o added at (comes, none) = nothing_more (taken s (slice_get entries place)) o added none (entry_told place (slice_get pool place) o refl comes)
+        (whole_reported old new s pool added stands queues o may_known comes)
+    at_reported (event.Take site place) o added at (comes, none) = nothing_more (taken s (slice_get entries place)) o added none (entry_reported place (slice_get pool place) o refl comes)
 
   -- a take that ran out of memory has its entry
-  wanting_entry : (pool : List Frame) (old new : SiteState) (e : Event) (o : Outcome) (added : List Frame) → ComesAt pool old e o new added → o ≡ NoMemory → HasEntry pool e
-  wanting_entry pool old new (event.Ask site asked) o added comes wanting = tt
-  wanting_entry pool old new (event.Cut site) o added comes wanting = tt
-  wanting_entry pool old new (event.Whole site) o added comes wanting = tt
-  wanting_entry pool old new (event.Take site place) o added comes wanting = by (slice_get pool place) refl comes.0
+  no_memory_entry : (pool : List Frame) (old new : SiteState) (e : Event) (o : Outcome) (added : List Frame) → ComesAt pool old e o new added → o ≡ NoMemory → HasEntry pool e
+  no_memory_entry pool old new (event.Ask site asked) o added comes no_memory = tt
+  no_memory_entry pool old new (event.Cut site) o added comes no_memory = tt
+  no_memory_entry pool old new (event.Whole site) o added comes no_memory = tt
+  no_memory_entry pool old new (event.Take site place) o added comes no_memory = by (slice_get pool place) refl comes.0
     where
       no : o ≡ NoEntry → ⊥
       no other = (cc)
 
       by : (found : Option Frame) → slice_get pool place ≡ found → ComesOfEntry found old o new → place < length pool
-      by None here told = absurd (no told.0)
-      by (Some frame) here told = slice_get_within pool place frame here
+      by None here reported = absurd (no reported.0)
+      by (Some frame) here reported = slice_get_within pool place frame here
 
   -- ---- in a world
 
@@ -241,7 +241,7 @@ module _ (laws : StandForSteps) where
             let same : to ≡ there = λ i. record { names = at.names i; sites = at.sites i; pool = at.comes.is i } in
             subst (λ (t : WorldState). HasHappened t w e o) (sym same)
             (at_site_happened from.names from.sites from.pool w stands e (site_of e) old at.new (from.pool ++ at.comes.added) o refl here grows.site grows.names
-            (λ wanting. taken_found e from.pool w stands.pool (wanting_entry from.pool old at.new e o at.comes.added comes wanting)) (happened at.new at.comes.added comes))
+            (λ no_memory. taken_found e from.pool w stands.pool (no_memory_entry from.pool old at.new e o at.comes.added comes no_memory)) (happened at.new at.comes.added comes))
           where
             happened : (new : SiteState) (added : List Frame) → ComesAt from.pool old e o new added → (s : SiteKnowledge) → slice_get w.sites (site_of e) ≡ Some s
                 → HasHappenedAt new s from.pool (from.pool ++ added) w.pool (happens_at old.names w.pool s e) o
@@ -251,25 +251,25 @@ module _ (laws : StandForSteps) where
                 let own = has.is.sites (site_of e) s known in
                 let there = slice_get_within w.sites (site_of e) s known in
                 let part = may_take from.names (length w.sites) (site_of e) has.made s old in
-                at_told old new s from.pool w.pool of.stands (subst AreQueues (sym of.names_are) queues) stands.pool (may_take_all from.names from.sites from.pool w stands has (site_of e) old s here known)
+                at_reported old new s from.pool w.pool of.stands (subst AreQueues (sym of.names_are) queues) stands.pool (may_take_all from.names from.sites from.pool w stands has (site_of e) old s here known)
                 (part s.known has.is.history own there of own.known) (part s.buffer has.is.history own there of (λ p is. own.known p (own.buffer p is))) e o added of.site comes
 
   -- an event that was done comes before others
   done_before : (new : WorldState) (w : World) (e : Event) (o : Outcome) (es : List Event) (os : List Outcome) → is_done o ≡ true → (happens new.names w e).1 ≡ o
       → HaveHappened new (happens new.names w e).0 es os → HaveHappened new w (e ∷ es) (o ∷ os)
-  done_before new w e o es os done told rest = record {
+  done_before new w e o es os done reported rest = record {
     one_each = let same = rest.one_each in omega (arith, same);
     there = ap (λ b. if b then are_there new.names (happens new.names w e).0 es os else is_there w e && are_there new.names w es os) done ∙ rest.there;
     outcomes_are = ap (λ b. if b then o ∷ outcomes_of os else outcomes_of os) done
-        ∙ (λ i. sym told i ∷ rest.outcomes_are i)
+        ∙ (λ i. sym reported i ∷ rest.outcomes_are i)
         ∙ ap (λ b. (run new.names w (if b then e ∷ done_of es os else done_of es os)).1) (sym done);
     stands = subst (λ b. StandsForWorld new (run new.names w (if b then e ∷ done_of es os else done_of es os)).0) (sym done) rest.stands;
   }
 
   -- an event that ran out of memory, followed by events that have happened
-  wanting_before : (new : WorldState) (w : World) (e : Event) (o : Outcome) (es : List Event) (os : List Outcome) → is_done o ≡ false → is_there w e ≡ true → HaveHappened new w es os
+  no_memory_before : (new : WorldState) (w : World) (e : Event) (o : Outcome) (es : List Event) (os : List Outcome) → is_done o ≡ false → is_there w e ≡ true → HaveHappened new w es os
       → HaveHappened new w (e ∷ es) (o ∷ os)
-  wanting_before new w e o es os undone here rest = record {
+  no_memory_before new w e o es os undone here rest = record {
     one_each = let same = rest.one_each in omega (arith, same);
     there = ap (λ b. if b then are_there new.names (happens new.names w e).0 es os else is_there w e && are_there new.names w es os) undone ∙ (λ i. here i && rest.there i);
     outcomes_are = ap (λ b. if b then o ∷ outcomes_of os else outcomes_of os) undone
@@ -299,12 +299,12 @@ module _ (laws : StandForSteps) where
           subst (λ names. IsReached names (length mid.sites) v) (sym kept) (subst (λ n. IsReached from.names n v) (leads_grow from mid e o first).sites.lengths there)
 
       by : ((v : World) → IsReached from.names (length from.sites) v → StandsForWorld mid v → HaveHappened to v es os) → HasHappened mid w e o → HaveHappened to w (e ∷ es) (o ∷ os)
-      by others (inl (done, told, standing)) =
+      by others (inl (done, reported, standing)) =
           let next = reached_more from.names (length from.sites) w (e ∷ []) reached in
-          done_before to w e o es os done (subst (λ names. (happens names w e).1 ≡ o) (sym after) told)
+          done_before to w e o es os done (subst (λ names. (happens names w e).1 ≡ o) (sym after) reported)
           (subst (λ names. HaveHappened to (happens names w e).0 es os) (sym (after ∙ kept))
           (others (happens from.names w e).0 next (subst (λ names. StandsForWorld mid (happens names w e).0) kept standing)))
-      by others (inr (is, here, standing)) = wanting_before to w e o es os (ap is_done is) here (others w reached standing)
+      by others (inr (is, here, standing)) = no_memory_before to w e o es os (ap is_done is) here (others w reached standing)
 
   -- an event of values within their limits leads from the states of a reached world to those of a reached world
   pub world_leads : (from to : WorldState) (e : Event) (o : Outcome) → IsWorld from → HasValuesWithinLimits e → EventLeads from e o to → IsWorld to

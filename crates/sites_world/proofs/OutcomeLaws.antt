@@ -26,57 +26,57 @@ use Rattle.sites_world.specs.declared.event.Event.{Event}
 use Rattle.sites_world.specs.declared.event.Event.TheVariants as event
 use Rattle.sites_world.specs.declared.outcome.Outcome.{Outcome}
 use Rattle.sites_world.specs.declared.outcome.Outcome.TheVariants as outcome
-use Rattle.sites_world.specs.Outcomes.{MayAnswer, IsOutcomeOf, IsToldRefusal, changes_nothing}
-use Rattle.sites_world.specs.Worlds.{Entry, Happening, World, answered, framed, happens, happens_at, happens_where, has_entry, is_done, run, site_of, take_told, taken}
-use Rattle.sites_world.specs.Promises.{HaveOutcomes, TellNoEntry, TellNoSite}
+use Rattle.sites_world.specs.Outcomes.{MayAnswer, IsOutcomeOf, IsRefusalOfMeaning, changes_nothing}
+use Rattle.sites_world.specs.Worlds.{Entry, Happening, World, answered, framed, happens, happens_at, happens_where, has_entry, is_done, run, site_of, take_result, taken}
+use Rattle.sites_world.specs.Promises.{HaveOutcomes, NoEntryIsExact, NoSiteIsExact}
 use Rattle.sites_world.proofs.Lists.{none_some, set_again}
 
 -- ---- which outcomes
 
 -- a meaning is no refusal as out of memory
-abbrev pub IsTold : Meaning → Type 0
-IsTold (refused_meaning r) = IsToldRefusal r
-IsTold (Makes o) = ⊤
+abbrev pub DecidesAgreement : Meaning → Type 0
+DecidesAgreement (refused_meaning r) = IsRefusalOfMeaning r
+DecidesAgreement (Makes o) = ⊤
 
 -- the meaning of an operation, by whether a site is full, its numbers are used up, or a total is
 abbrev pub by_limits : Operation → Bool → Bool → Bool → Meaning
 by_limits o full exhausted past = if full then refused_meaning refusal.MembersFull else if exhausted then refused_meaning refusal.Exhausted else if past then refused_meaning refusal.TotalFull else Makes o
 
-limits_told : (r buffer : SiteView) (o : Operation) → IsTold (within_limits r buffer o)
-limits_told r buffer o = by (is_full r o || (is_full buffer o || is_too_long o)) (is_exhausted o) (is_past_total o)
+limits_reported : (r buffer : SiteView) (o : Operation) → DecidesAgreement (within_limits r buffer o)
+limits_reported r buffer o = by (is_full r o || (is_full buffer o || is_too_long o)) (is_exhausted o) (is_past_total o)
   where
-    by : (a b c : Bool) → IsTold (by_limits o a b c)
+    by : (a b c : Bool) → DecidesAgreement (by_limits o a b c)
     by true b c = tt
     by false true c = tt
     by false false true = tt
     by false false false = tt
 
-queue_told : (found : Option ℕ) (go : ℕ → Meaning) → ((queue : ℕ) → IsTold (go queue)) → IsTold (in_queue found go)
-queue_told None go all = tt
-queue_told (Some queue) go all = all queue
+queue_reported : (found : Option ℕ) (go : ℕ → Meaning) → ((queue : ℕ) → DecidesAgreement (go queue)) → DecidesAgreement (in_queue found go)
+queue_reported None go all = tt
+queue_reported (Some queue) go all = all queue
 
-absent_told : (dots : List (Dot × Member)) (made : Meaning) → IsTold made → IsTold (where_absent dots made)
-absent_told [] made told = told
-absent_told (d ∷ ds) made told = tt
+absent_reported : (dots : List (Dot × Member)) (made : Meaning) → DecidesAgreement made → DecidesAgreement (where_absent dots made)
+absent_reported [] made reported = reported
+absent_reported (d ∷ ds) made reported = tt
 
-present_told : (dots : List (Dot × Member)) (made : Meaning) → IsTold made → IsTold (where_present dots made)
-present_told [] made told = tt
-present_told (d ∷ ds) made told = told
+present_reported : (dots : List (Dot × Member)) (made : Meaning) → DecidesAgreement made → DecidesAgreement (where_present dots made)
+present_reported [] made reported = tt
+present_reported (d ∷ ds) made reported = reported
 
-meaning_told : (site : ℕ) (names : List (List ℕ)) (r buffer : SiteView) (change : Change) → IsTold (meaning site names r buffer change)
-meaning_told site names r buffer (AddMember queue interface penalty paused label) =
-    queue_told (number_of names queue) (λ q. where_absent (dots_seen r.dots (Some q) interface) (within_limits r buffer (add_at site r (record { queue = q; interface = interface }) penalty paused label)))
-    (λ q. absent_told (dots_seen r.dots (Some q) interface) _ (limits_told r buffer (add_at site r (record { queue = q; interface = interface }) penalty paused label)))
-meaning_told site names r buffer (RemoveMember queue interface) =
-    queue_told (number_of names queue) (λ q. where_present (dots_seen r.dots (Some q) interface) (within_limits r buffer (remove_of (dots_seen r.dots (Some q) interface))))
-    (λ q. present_told (dots_seen r.dots (Some q) interface) _ (limits_told r buffer (remove_of (dots_seen r.dots (Some q) interface))))
-meaning_told site names r buffer (SetField None interface setting) =
-    present_told (dots_seen r.dots None interface) _ (limits_told r buffer (write_at site r setting (dots_seen r.dots None interface)))
-meaning_told site names r buffer (SetField (Some queue) interface setting) =
-    queue_told (number_of names queue) (λ q. meaning_of_setting site r buffer setting (dots_seen r.dots (Some q) interface))
-    (λ q. present_told (dots_seen r.dots (Some q) interface) _ (limits_told r buffer (write_at site r setting (dots_seen r.dots (Some q) interface))))
-meaning_told site names r buffer (CountCall queue calls) =
-    queue_told (number_of names queue) (λ q. within_limits r buffer (count_at site r q calls)) (λ q. limits_told r buffer (count_at site r q calls))
+meaning_reported : (site : ℕ) (names : List (List ℕ)) (r buffer : SiteView) (change : Change) → DecidesAgreement (meaning site names r buffer change)
+meaning_reported site names r buffer (AddMember queue interface penalty paused label) =
+    queue_reported (number_of names queue) (λ q. where_absent (dots_seen r.dots (Some q) interface) (within_limits r buffer (add_at site r (record { queue = q; interface = interface }) penalty paused label)))
+    (λ q. absent_reported (dots_seen r.dots (Some q) interface) _ (limits_reported r buffer (add_at site r (record { queue = q; interface = interface }) penalty paused label)))
+meaning_reported site names r buffer (RemoveMember queue interface) =
+    queue_reported (number_of names queue) (λ q. where_present (dots_seen r.dots (Some q) interface) (within_limits r buffer (remove_of (dots_seen r.dots (Some q) interface))))
+    (λ q. present_reported (dots_seen r.dots (Some q) interface) _ (limits_reported r buffer (remove_of (dots_seen r.dots (Some q) interface))))
+meaning_reported site names r buffer (SetField None interface setting) =
+    present_reported (dots_seen r.dots None interface) _ (limits_reported r buffer (write_at site r setting (dots_seen r.dots None interface)))
+meaning_reported site names r buffer (SetField (Some queue) interface setting) =
+    queue_reported (number_of names queue) (λ q. meaning_of_setting site r buffer setting (dots_seen r.dots (Some q) interface))
+    (λ q. present_reported (dots_seen r.dots (Some q) interface) _ (limits_reported r buffer (write_at site r setting (dots_seen r.dots (Some q) interface))))
+meaning_reported site names r buffer (CountCall queue calls) =
+    queue_reported (number_of names queue) (λ q. within_limits r buffer (count_at site r q calls)) (λ q. limits_reported r buffer (count_at site r q calls))
 
 -- a frame that is asked for, by whether no number is left
 abbrev pub frame_by : SiteKnowledge → Knowledge → Knowledge → Bool → SiteKnowledge × steps.Outcome
@@ -88,91 +88,91 @@ take_by s frame cells runs =
     if cells then (s, steps.CellsFull) else if runs then (s, steps.RunsFull) else (record { known = frame ++ s.known; buffer = s.buffer; frames = s.frames }, steps.Taken)
 
 -- the outcome of an ask
-ask_told : (site : ℕ) (names : List (List ℕ)) (s : SiteKnowledge) (asked : Ask) → MayAnswer asked (answer_in site names s asked).1
-ask_told site names s (Status request) = tt
-ask_told site names s (asked_command command) = by (meaning site names (site_view site s.known) (site_view site s.buffer) (change_of command)) (meaning_told site names _ _ (change_of command))
+ask_reported : (site : ℕ) (names : List (List ℕ)) (s : SiteKnowledge) (asked : Ask) → MayAnswer asked (answer_in site names s asked).1
+ask_reported site names s (Status request) = tt
+ask_reported site names s (asked_command command) = by (meaning site names (site_view site s.known) (site_view site s.buffer) (change_of command)) (meaning_reported site names _ _ (change_of command))
   where
-    by : (m : Meaning) → IsTold m → MayAnswer (asked_command command) (answer_of (result_of (after_meaning s m).1))
-    by (Makes o) told = tt
-    by (refused_meaning r) told = told
+    by : (m : Meaning) → DecidesAgreement m → MayAnswer (asked_command command) (answer_of (result_of (after_meaning s m).1))
+    by (Makes o) reported = tt
+    by (refused_meaning r) reported = reported
 
-frame_told : (e : Event) (site entries : ℕ) (s : SiteKnowledge) (frame buffer : Knowledge)
+frame_result : (e : Event) (site entries : ℕ) (s : SiteKnowledge) (frame buffer : Knowledge)
     → ((n : ℕ) → IsOutcomeOf e (outcome.Cut (Ok (Some n)))) → IsOutcomeOf e (outcome.Cut (Err Exhausted)) → IsOutcomeOf e (framed site entries (after_frame s frame buffer)).outcome
-frame_told e site entries s frame buffer made none = by (nat_lt MOST_COUNT (suc s.frames))
+frame_result e site entries s frame buffer made none = by (nat_lt MOST_COUNT (suc s.frames))
   where
     by : (b : Bool) → IsOutcomeOf e (framed site entries (frame_by s frame buffer b)).outcome
     by true = none
     by false = made entries
 
-cut_told : (site entries : ℕ) (s : SiteKnowledge) (buffer : Knowledge) → IsOutcomeOf (event.Cut site) (framed site entries (cut s buffer)).outcome
-cut_told site entries s [] = tt
-cut_told site entries s (o ∷ os) = frame_told (event.Cut site) site entries s (o ∷ os) [] (λ n. tt) refl
+cut_reported : (site entries : ℕ) (s : SiteKnowledge) (buffer : Knowledge) → IsOutcomeOf (event.Cut site) (framed site entries (cut s buffer)).outcome
+cut_reported site entries s [] = tt
+cut_reported site entries s (o ∷ os) = frame_result (event.Cut site) site entries s (o ∷ os) [] (λ n. tt) refl
 
-take-told : (site place : ℕ) (s : SiteKnowledge) (found : Option Entry) → IsOutcomeOf (event.Take site place) (taken s found).outcome
-take-told site place s None = tt
-take-told site place s (Some entry) = by (nat_lt MOST_LIVE (set.len (visible_dots (entry.carried ++ s.known)))) (nat_lt MOST_RUNS (run_count (known_dots (entry.carried ++ s.known))))
+take-reported : (site place : ℕ) (s : SiteKnowledge) (found : Option Entry) → IsOutcomeOf (event.Take site place) (taken s found).outcome
+take-reported site place s None = tt
+take-reported site place s (Some entry) = by (nat_lt MOST_LIVE (set.len (visible_dots (entry.carried ++ s.known)))) (nat_lt MOST_RUNS (run_count (known_dots (entry.carried ++ s.known))))
   where
-    by : (a b : Bool) → IsOutcomeOf (event.Take site place) (outcome.Took (take_told (take_by s entry.carried a b).1))
+    by : (a b : Bool) → IsOutcomeOf (event.Take site place) (outcome.Took (take_result (take_by s entry.carried a b).1))
     by true b = inl refl
     by false true = inr refl
     by false false = tt
 
-at_told : (names : List (List ℕ)) (pool : List Entry) (s : SiteKnowledge) (e : Event) → IsOutcomeOf e (happens_at names pool s e).outcome
-at_told names pool s (event.Ask site asked) = ask_told site names s asked
-at_told names pool s (event.Cut site) = cut_told site (length pool) s s.buffer
-at_told names pool s (event.Whole site) = frame_told (event.Whole site) site (length pool) s s.known s.buffer (λ n. tt) refl
-at_told names pool s (event.Take site place) = take-told site place s (slice_get pool place)
+at_reported : (names : List (List ℕ)) (pool : List Entry) (s : SiteKnowledge) (e : Event) → IsOutcomeOf e (happens_at names pool s e).outcome
+at_reported names pool s (event.Ask site asked) = ask_reported site names s asked
+at_reported names pool s (event.Cut site) = cut_reported site (length pool) s s.buffer
+at_reported names pool s (event.Whole site) = frame_result (event.Whole site) site (length pool) s s.known s.buffer (λ n. tt) refl
+at_reported names pool s (event.Take site place) = take-reported site place s (slice_get pool place)
 
-no_site_told : (e : Event) → IsOutcomeOf e outcome.NoSite
-no_site_told (event.Ask site asked) = tt
-no_site_told (event.Cut site) = tt
-no_site_told (event.Whole site) = tt
-no_site_told (event.Take site place) = tt
+no_site_reported : (e : Event) → IsOutcomeOf e outcome.NoSite
+no_site_reported (event.Ask site asked) = tt
+no_site_reported (event.Cut site) = tt
+no_site_reported (event.Whole site) = tt
+no_site_reported (event.Take site place) = tt
 
 pub of_their_events : (names : List (List ℕ)) (w : World) (e : Event) → IsOutcomeOf e (happens names w e).1
 of_their_events names w e = by (slice_get w.sites (site_of e))
   where
     by : (found : Option SiteKnowledge) → IsOutcomeOf e (happens_where names w (site_of e) found e).1
-    by None = no_site_told e
-    by (Some s) = at_told names w.pool s e
+    by None = no_site_reported e
+    by (Some s) = at_reported names w.pool s e
 
 -- ---- no such site, and no such entry
 
 -- no event at a site that is there has the outcome `NoSite`
-there_told : (names : List (List ℕ)) (pool : List Entry) (s : SiteKnowledge) (e : Event) → (happens_at names pool s e).outcome ≡ outcome.NoSite → ⊥
-there_told names pool s (event.Ask site asked) told = (cc)
-there_told names pool s (event.Cut site) told = (cc)
-there_told names pool s (event.Whole site) told = (cc)
-there_told names pool s (event.Take site place) told = by (slice_get pool place) told
+there_reported : (names : List (List ℕ)) (pool : List Entry) (s : SiteKnowledge) (e : Event) → (happens_at names pool s e).outcome ≡ outcome.NoSite → ⊥
+there_reported names pool s (event.Ask site asked) reported = (cc)
+there_reported names pool s (event.Cut site) reported = (cc)
+there_reported names pool s (event.Whole site) reported = (cc)
+there_reported names pool s (event.Take site place) reported = by (slice_get pool place) reported
   where
     by : (found : Option Entry) → (taken s found).outcome ≡ outcome.NoSite → ⊥
-    by None told = (cc)
-    by (Some entry) told = (cc)
+    by None reported = (cc)
+    by (Some entry) reported = (cc)
 
-pub tell_no_site : TellNoSite
-tell_no_site names w e = by (slice_get w.sites (site_of e))
+pub no_site_is_exact : NoSiteIsExact
+no_site_is_exact names w e = by (slice_get w.sites (site_of e))
   where
     by : (found : Option SiteKnowledge) → ((happens_where names w (site_of e) found e).1 ≡ outcome.NoSite) ↔ (found ≡ None)
-    by None = ((λ told. refl), (λ is. refl))
-    by (Some s) = ((λ told. absurd (there_told names w.pool s e told)), (λ is. absurd (none_some s (sym is))))
+    by None = ((λ reported. refl), (λ is. refl))
+    by (Some s) = ((λ reported. absurd (there_reported names w.pool s e reported)), (λ is. absurd (none_some s (sym is))))
 
 -- an event at a site that is there has the outcome `NoEntry` exactly where it takes an entry that isn't there
-entry_told : (names : List (List ℕ)) (w : World) (s : SiteKnowledge) (e : Event) → ((happens_at names w.pool s e).outcome ≡ outcome.NoEntry) ↔ (has_entry w e ≡ false)
-entry_told names w s (event.Ask site asked) = ((λ told. absurd (cc)), (λ is. absurd (true≢false is)))
-entry_told names w s (event.Cut site) = ((λ told. absurd (cc)), (λ is. absurd (true≢false is)))
-entry_told names w s (event.Whole site) = ((λ told. absurd (cc)), (λ is. absurd (true≢false is)))
-entry_told names w s (event.Take site place) = by (slice_get w.pool place)
+entry_reported : (names : List (List ℕ)) (w : World) (s : SiteKnowledge) (e : Event) → ((happens_at names w.pool s e).outcome ≡ outcome.NoEntry) ↔ (has_entry w e ≡ false)
+entry_reported names w s (event.Ask site asked) = ((λ reported. absurd (cc)), (λ is. absurd (true≢false is)))
+entry_reported names w s (event.Cut site) = ((λ reported. absurd (cc)), (λ is. absurd (true≢false is)))
+entry_reported names w s (event.Whole site) = ((λ reported. absurd (cc)), (λ is. absurd (true≢false is)))
+entry_reported names w s (event.Take site place) = by (slice_get w.pool place)
   where
     by : (found : Option Entry) → ((taken s found).outcome ≡ outcome.NoEntry) ↔ (is_some found ≡ false)
-    by None = ((λ told. refl), (λ is. refl))
-    by (Some entry) = ((λ told. absurd (cc)), (λ is. absurd (true≢false is)))
+    by None = ((λ reported. refl), (λ is. refl))
+    by (Some entry) = ((λ reported. absurd (cc)), (λ is. absurd (true≢false is)))
 
-pub tell_no_entry : TellNoEntry
-tell_no_entry names w e = by (slice_get w.sites (site_of e))
+pub no_entry_is_exact : NoEntryIsExact
+no_entry_is_exact names w e = by (slice_get w.sites (site_of e))
   where
     by : (found : Option SiteKnowledge) → ((happens_where names w (site_of e) found e).1 ≡ outcome.NoEntry) ↔ ((found ≢ None) × (has_entry w e ≡ false))
-    by None = ((λ told. absurd (cc)), (λ is. absurd (is.0 refl)))
-    by (Some s) = let at = entry_told names w s e in ((λ told. ((λ none. none_some s (sym none)), at.0 told)), (λ is. at.1 is.1))
+    by None = ((λ reported. absurd (cc)), (λ is. absurd (is.0 refl)))
+    by (Some s) = let at = entry_reported names w s e in ((λ reported. ((λ none. none_some s (sym none)), at.0 reported)), (λ is. at.1 is.1))
 
 -- ---- what changes nothing
 
@@ -204,8 +204,8 @@ take_stays : (s : SiteKnowledge) (found : Option Entry) → changes_nothing (tak
 take_stays s None h = record { site = refl; added = refl }
 take_stays s (Some entry) h = by (nat_lt MOST_LIVE (set.len (visible_dots (entry.carried ++ s.known)))) (nat_lt MOST_RUNS (run_count (known_dots (entry.carried ++ s.known)))) h
   where
-    by : (a b : Bool) → changes_nothing (outcome.Took (take_told (take_by s entry.carried a b).1)) ≡ true
-        → Stays s (record { site = (take_by s entry.carried a b).0; added = []; outcome = outcome.Took (take_told (take_by s entry.carried a b).1) })
+    by : (a b : Bool) → changes_nothing (outcome.Took (take_result (take_by s entry.carried a b).1)) ≡ true
+        → Stays s (record { site = (take_by s entry.carried a b).0; added = []; outcome = outcome.Took (take_result (take_by s entry.carried a b).1) })
     by true b h = record { site = refl; added = refl }
     by false true h = record { site = refl; added = refl }
     by false false h = absurd (true≢false (sym h))
@@ -230,20 +230,20 @@ refusals_change_nothing names w e h = by (slice_get w.sites (site_of e)) refl h
 -- ---- outcomes of events in turn
 
 -- an outcome that an event may have isn't `NoMemory`
-told_done : (e : Event) (o : Outcome) → IsOutcomeOf e o → is_done o ≡ true
-told_done e (outcome.Answered answer) is = refl
-told_done e (outcome.Cut result) is = refl
-told_done e (outcome.Took result) is = refl
-told_done e outcome.NoSite is = refl
-told_done e outcome.NoEntry is = refl
-told_done (event.Ask site asked) outcome.NoMemory is = absurd is
-told_done (event.Cut site) outcome.NoMemory is = absurd is
-told_done (event.Whole site) outcome.NoMemory is = absurd is
-told_done (event.Take site place) outcome.NoMemory is = absurd is
+reported_done : (e : Event) (o : Outcome) → IsOutcomeOf e o → is_done o ≡ true
+reported_done e (outcome.Answered answer) is = refl
+reported_done e (outcome.Cut result) is = refl
+reported_done e (outcome.Took result) is = refl
+reported_done e outcome.NoSite is = refl
+reported_done e outcome.NoEntry is = refl
+reported_done (event.Ask site asked) outcome.NoMemory is = absurd is
+reported_done (event.Cut site) outcome.NoMemory is = absurd is
+reported_done (event.Whole site) outcome.NoMemory is = absurd is
+reported_done (event.Take site place) outcome.NoMemory is = absurd is
 
 all_done : (names : List (List ℕ)) (w : World) (events : List Event) → AllByRecursion (λ o. is_done o ≡ true) (run names w events).1
 all_done names w [] = tt
-all_done names w (e ∷ es) = (told_done e (happens names w e).1 (of_their_events names w e), all_done names (happens names w e).0 es)
+all_done names w (e ∷ es) = (reported_done e (happens names w e).1 (of_their_events names w e), all_done names (happens names w e).0 es)
 
 one-each : (names : List (List ℕ)) (w : World) (events : List Event) → length (run names w events).1 ≡ length events
 one-each names w [] = refl

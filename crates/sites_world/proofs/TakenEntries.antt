@@ -9,21 +9,21 @@ use Rattle.replica.specs.Steps.{SiteKnowledge}
 use Rattle.sites_world.specs.declared.event.Event.TheVariants as event
 use Rattle.sites_world.specs.declared.outcome.Outcome.TheVariants.{Took}
 use Rattle.sites_world.specs.Promises.{HasTakenEntry}
-use Rattle.sites_world.specs.Worlds.{Entry, World, after_happening, happens, happens_where, take_told, taken}
+use Rattle.sites_world.specs.Worlds.{Entry, World, after_happening, happens, happens_where, take_result, taken}
 use Rattle.sites_world.proofs.Lists.{get_set_same}
 use Rattle.sites_world.proofs.OutcomeLaws.{take_by}
 use Rattle.sites_world.proofs.Parts.{first_part, second_part}
 
 pub taken_gives : (names : List (List ℕ)) (w : World) (site place : ℕ) → (happens names w (event.Take site place)).1 ≡ Took (Ok tt)
     → HasTakenEntry w (happens names w (event.Take site place)).0 site place
-taken_gives names w site place told = at-site (slice_get w.sites site) refl told
+taken_gives names w site place reported = at-site (slice_get w.sites site) refl reported
   where
     by_limits : (s : SiteKnowledge) (entry : Entry) (cells runs : Bool) → slice_get w.sites site ≡ Some s → slice_get w.pool place ≡ Some entry
-        → Took (take_told (take_by s entry.carried cells runs).1) ≡ Took (Ok tt)
-        → HasTakenEntry w (after_happening w site (record { site = (take_by s entry.carried cells runs).0; added = []; outcome = Took (take_told (take_by s entry.carried cells runs).1) })) site place
-    by_limits s entry true runs was carried told = absurd (cc)
-    by_limits s entry false true was carried told = absurd (cc)
-    by_limits s entry false false was carried told = record {
+        → Took (take_result (take_by s entry.carried cells runs).1) ≡ Took (Ok tt)
+        → HasTakenEntry w (after_happening w site (record { site = (take_by s entry.carried cells runs).0; added = []; outcome = Took (take_result (take_by s entry.carried cells runs).1) })) site place
+    by_limits s entry true runs was carried reported = absurd (cc)
+    by_limits s entry false true was carried reported = absurd (cc)
+    by_limits s entry false false was carried reported = record {
       before = s;
       entry = entry;
       now = record { known = entry.carried ++ s.known; buffer = s.buffer; frames = s.frames };
@@ -37,11 +37,11 @@ taken_gives names w site place told = at-site (slice_get w.sites site) refl told
 
     at_entry : (s : SiteKnowledge) (found : Option Entry) → slice_get w.sites site ≡ Some s → slice_get w.pool place ≡ found
         → (taken s found).outcome ≡ Took (Ok tt) → HasTakenEntry w (after_happening w site (taken s found)) site place
-    at_entry s None was carried told = absurd (cc)
-    at_entry s (Some entry) was carried told =
-        by_limits s entry (nat_lt MOST_LIVE (set.len (visible_dots (entry.carried ++ s.known)))) (nat_lt MOST_RUNS (run_count (known_dots (entry.carried ++ s.known)))) was carried told
+    at_entry s None was carried reported = absurd (cc)
+    at_entry s (Some entry) was carried reported =
+        by_limits s entry (nat_lt MOST_LIVE (set.len (visible_dots (entry.carried ++ s.known)))) (nat_lt MOST_RUNS (run_count (known_dots (entry.carried ++ s.known)))) was carried reported
 
     at-site : (found : Option SiteKnowledge) → slice_get w.sites site ≡ found → (happens_where names w site found (event.Take site place)).1 ≡ Took (Ok tt)
         → HasTakenEntry w (happens_where names w site found (event.Take site place)).0 site place
-    at-site None was told = absurd (cc)
-    at-site (Some s) was told = at_entry s (slice_get w.pool place) was refl told
+    at-site None was reported = absurd (cc)
+    at-site (Some s) was reported = at_entry s (slice_get w.pool place) was refl reported

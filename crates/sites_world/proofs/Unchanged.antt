@@ -11,7 +11,7 @@ use Rattle.status_report.specs.declared.asks.Ask.{Ask}
 use Rattle.status_report.specs.declared.asks.Ask.TheVariants.{Command as asked_command, Status}
 use Rattle.status_report.specs.Answers.{AnswersCommand, KeepsAtStatus, answer_of}
 use Rattle.sites_world.specs.Outcomes.{changes_nothing}
-use Rattle.sites_world.specs.Telling.{answer_told}
+use Rattle.sites_world.specs.SiteOutcomes.{answer_outcome}
 use Rattle.sites_world.specs.WorldStates.{Correspond}
 use Rattle.sites_world.proofs.Lists.{correspond_set, one_some, set_again}
 
@@ -25,7 +25,7 @@ done_refused r result done refused = cc
 
 -- an answer that changes nothing leaves the site as it was
 pub answered_unchanged : (old new : SiteState) (asked : Ask) (answer : Answer) → AnswersCommand old asked new answer → KeepsAtStatus old asked new
-    → changes_nothing (answer_told answer) ≡ true → IsUnchanged old new
+    → changes_nothing (answer_outcome answer) ≡ true → IsUnchanged old new
 answered_unchanged old new (Status request) answer answers kept nothing = equal_unchanged old new kept
 answered_unchanged old new (asked_command command) answer (result, is, done) kept nothing = by result is done
   where
@@ -35,7 +35,7 @@ answered_unchanged old new (asked_command command) answer (result, is, done) kep
     meant (Refused x) r (inl follows) = follows.1
 
     by : (result : Result (Unit {0}) Refusal) → answer ≡ answer_of result → IsDone old (meaning_at old (change_of command)) new result → IsUnchanged old new
-    by (Ok u) is done = absurd (true≢false (sym nothing ∙ ap (λ a. changes_nothing (answer_told a)) is))
+    by (Ok u) is done = absurd (true≢false (sym nothing ∙ ap (λ a. changes_nothing (answer_outcome a)) is))
     by (Err r) is done = meant (meaning_at old (change_of command)) r done
 
 -- sites are as they are

@@ -27,7 +27,7 @@ use Rattle.sites_world.specs.declared.outcome.Outcome.{Outcome}
 use Rattle.sites_world.specs.declared.outcome.Outcome.TheVariants.{Took}
 use Rattle.sites_world.specs.Histories.{IsPartOf}
 use Rattle.sites_world.specs.Promises.{members_seen}
-use Rattle.sites_world.specs.Telling.{MayBeTaken}
+use Rattle.sites_world.specs.SiteOutcomes.{MayBeTaken}
 use Rattle.sites_world.specs.Worlds.{Entry, IsReached, World, happens, run}
 use Rattle.sites_world.specs.WorldStates.{Correspond, IsSiteOf, IsWorld, WorldState}
 

@@ -3,7 +3,7 @@ pub mod Fitting
 pub mod Histories
 pub mod WithinLimits
 pub mod WorldStates
-pub mod Telling
+pub mod SiteOutcomes
 pub mod Outcomes
 pub mod Promises
 pub mod Holding

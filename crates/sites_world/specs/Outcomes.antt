@@ -14,14 +14,14 @@ use Rattle.sites_world.specs.declared.outcome.Outcome.{Outcome}
 use Rattle.sites_world.specs.declared.outcome.Outcome.TheVariants as outcome
 
 -- a refusal is one that the meaning of a command may have: any but out of memory
-abbrev pub IsToldRefusal : Refusal → Type 0
-IsToldRefusal refusal.Memory = ⊥
-IsToldRefusal other = ⊤
+abbrev pub IsRefusalOfMeaning : Refusal → Type 0
+IsRefusalOfMeaning refusal.Memory = ⊥
+IsRefusalOfMeaning other = ⊤
 
 -- an answer is one that an ask may have: for a command, done or a refusal other than out of memory; for a status, a report
 abbrev pub MayAnswer : Ask → Answer → Type 0
 MayAnswer (asked_command command) Done = ⊤
-MayAnswer (asked_command command) (Refused r) = IsToldRefusal r
+MayAnswer (asked_command command) (Refused r) = IsRefusalOfMeaning r
 MayAnswer (asked_command command) (Report bytes) = ⊥
 MayAnswer (Status request) (Report bytes) = ⊤
 MayAnswer (Status request) Done = ⊥

@@ -134,12 +134,12 @@ abbrev pub AreOfTheirEvents : Type 0
 AreOfTheirEvents = (names : List (List ℕ)) (w : World) (e : Event) → IsOutcomeOf e (happens names w e).1
 
 -- the outcome of an event is `NoSite` exactly where there is no such site
-abbrev pub TellNoSite : Type 0
-TellNoSite = (names : List (List ℕ)) (w : World) (e : Event) → ((happens names w e).1 ≡ NoSite) ↔ (slice_get w.sites (site_of e) ≡ None)
+abbrev pub NoSiteIsExact : Type 0
+NoSiteIsExact = (names : List (List ℕ)) (w : World) (e : Event) → ((happens names w e).1 ≡ NoSite) ↔ (slice_get w.sites (site_of e) ≡ None)
 
 -- the outcome of an event is `NoEntry` exactly where there is its site, and not the entry that it takes
-abbrev pub TellNoEntry : Type 0
-TellNoEntry = (names : List (List ℕ)) (w : World) (e : Event) → ((happens names w e).1 ≡ NoEntry) ↔ ((slice_get w.sites (site_of e) ≢ None) × (has_entry w e ≡ false))
+abbrev pub NoEntryIsExact : Type 0
+NoEntryIsExact = (names : List (List ℕ)) (w : World) (e : Event) → ((happens names w e).1 ≡ NoEntry) ↔ ((slice_get w.sites (site_of e) ≢ None) × (has_entry w e ≡ false))
 
 -- an event whose outcome is one that changes nothing leaves the world as it was
 abbrev pub RefusalsChangeNothing : Type 0

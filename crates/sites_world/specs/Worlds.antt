@@ -46,28 +46,28 @@ abbrev pub entries_of : ℕ → steps.Outcome → List Entry
 entries_of maker (Framed number carried) = record { maker = maker; number = number; carried = carried } ∷ []
 entries_of maker other = []
 
--- the outcome of a cut or a whole: the place of the frame, after `entries` entries; `Exhausted`, where no number was left; or that
+-- the result of a cut or a whole: the place of the frame, after `entries` entries; `Exhausted`, where no number was left; or that
 -- there was nothing to cut
-abbrev pub frame_told : ℕ → steps.Outcome → Result (Option ℕ) CutFault
-frame_told entries (Framed number carried) = Ok (Some entries)
-frame_told entries NoNumber = Err Exhausted
-frame_told entries other = Ok None
+abbrev pub frame_result : ℕ → steps.Outcome → Result (Option ℕ) CutFault
+frame_result entries (Framed number carried) = Ok (Some entries)
+frame_result entries NoNumber = Err Exhausted
+frame_result entries other = Ok None
 
 -- the effect of a cut or a whole at site `maker` where the pool has `entries` entries: `after` is what the site knows then, and the
 -- outcome of its step
 abbrev pub framed : ℕ → ℕ → SiteKnowledge × steps.Outcome → Happening
-framed maker entries after = record { site = after.0; added = entries_of maker after.1; outcome = outcome.Cut (frame_told entries after.1) }
+framed maker entries after = record { site = after.0; added = entries_of maker after.1; outcome = outcome.Cut (frame_result entries after.1) }
 
--- the outcome of a take: the frame was taken, or the join would have too many dots or runs
-abbrev pub take_told : steps.Outcome → Result (Unit {0}) TakeFault
-take_told steps.CellsFull = Err take_fault.CellsFull
-take_told steps.RunsFull = Err take_fault.RunsFull
-take_told other = Ok tt
+-- the result of a take: the frame was taken, or the join would have too many dots or runs
+abbrev pub take_result : steps.Outcome → Result (Unit {0}) TakeFault
+take_result steps.CellsFull = Err take_fault.CellsFull
+take_result steps.RunsFull = Err take_fault.RunsFull
+take_result other = Ok tt
 
 -- the effect of a take at a site that knows `s`, of the frame of an entry; `NoEntry` where there is no such entry
 abbrev pub taken : SiteKnowledge → Option Entry → Happening
 taken s None = record { site = s; added = []; outcome = outcome.NoEntry }
-taken s (Some entry) = let after = take s entry.carried in record { site = after.0; added = []; outcome = outcome.Took (take_told after.1) }
+taken s (Some entry) = let after = take s entry.carried in record { site = after.0; added = []; outcome = outcome.Took (take_result after.1) }
 
 -- the effect of an event at a site that knows `s`, with the entries `pool` in the pool; each site has the queues of these names
 abbrev pub happens_at : List (List ℕ) → List Entry → SiteKnowledge → Event → Happening

@@ -1,7 +1,7 @@
 ghost use Rattle.std.specs.Prelude.{◌≡◌, ℕ, IfOk, IsOk, OnErr};
 ghost use Rattle.replica.specs.declared.command.Command.{Command};
 ghost use Rattle.status_report.specs.declared.asks.Ask.TheVariants.{Command as asked_command};
-ghost use Rattle.sites_world.specs.Telling.{IsAsk};
+ghost use Rattle.sites_world.specs.SiteOutcomes.{IsAsk};
 ghost use Rattle.sites_world.specs.WithinLimits.{HasValuesWithinLimits};
 
 use dots::{Memory, SiteId};

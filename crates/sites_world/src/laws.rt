@@ -20,7 +20,7 @@ ghost use Rattle.sites_world.specs.Promises.{GiveSameAnswer, HaveHistories, Have
 ghost use Rattle.sites_world.specs.Promises.{HaveFewLiveDots, HaveFewVisibleDots, TakesGive};
 ghost use Rattle.sites_world.specs.Promises.{HaveSameStatus, LeadsOn, ReportsAreReadings};
 ghost use Rattle.sites_world.specs.Promises.{AreOfTheirEvents, RefusalsChangeNothing, RunsInParts};
-ghost use Rattle.sites_world.specs.Promises.{TellNoEntry, TellNoSite};
+ghost use Rattle.sites_world.specs.Promises.{NoEntryIsExact, NoSiteIsExact};
 ghost use Rattle.sites_world.specs.WithinLimits.{HasValuesWithinLimits};
 ghost use Rattle.sites_world.specs.Worlds.{IsReached, World};
 ghost use Rattle.sites_world.specs.WorldStates.{HasHappened, HaveHappened, IsUnchanged, IsWorld};
@@ -78,8 +78,8 @@ pub fn sites_that_know_the_same_have_the_same_status()
 /// with `NoSuchQueue`, `NotMine` or `Conflict`.
 pub fn an_outcome_is_of_its_event()
     ensures kind { AreOfTheirEvents }
-    ensures no_site { TellNoSite }
-    ensures no_entry { TellNoEntry }
+    ensures no_site { NoSiteIsExact }
+    ensures no_entry { NoEntryIsExact }
 {}
 
 /// In the world of operations each list of events has exactly one list of outcomes, one for each event, and none of them is

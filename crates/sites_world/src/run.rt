@@ -12,9 +12,9 @@ ghost use Rattle.sites_world.specs.Conditions.{ComesAt, ComesOfAsk, ComesOfCut, 
 ghost use Rattle.sites_world.specs.Conditions.{ComesOfWhole, GrowsBy, EventsLead, EventLeads};
 ghost use Rattle.sites_world.specs.Conditions.{HasFrameToCut, HasFrameToMake};
 ghost use Rattle.sites_world.specs.Outcomes.{changes_nothing};
-ghost use Rattle.sites_world.specs.Telling.{HasEntry, HasHappenedAt, IsAnsweredSo, IsFramedSo};
-ghost use Rattle.sites_world.specs.Telling.{IsTakenSo, MayBeTaken};
-ghost use Rattle.sites_world.specs.Telling.{answer_told, take_fault_told};
+ghost use Rattle.sites_world.specs.SiteOutcomes.{HasEntry, HasHappenedAt, IsAnsweredSo, IsFramedSo};
+ghost use Rattle.sites_world.specs.SiteOutcomes.{IsTakenSo, MayBeTaken};
+ghost use Rattle.sites_world.specs.SiteOutcomes.{answer_outcome, take_fault_outcome};
 ghost use Rattle.sites_world.specs.WithinLimits.{HasValuesWithinLimits};
 ghost use Rattle.sites_world.specs.Worlds.{Entry, IsReached, World, happens_at, site_of};
 ghost use Rattle.sites_world.specs.WorldStates.{Correspond, HasHappened, HaveHappened, IsFrameOf};
@@ -27,8 +27,8 @@ use status_report::{Answer, Ask, ask};
 use std::alloc::Global;
 
 // The outcome of an answer; `NoMemory` for a refusal as out of memory.
-fn answer_told(answer: Answer) -> Outcome
-    ensures { result ≡ answer_told answer }
+fn answer_outcome(answer: Answer) -> Outcome
+    ensures { result ≡ answer_outcome answer }
 {
     match answer {
         Answer::Refused(Refusal::Memory) => Outcome::NoMemory,
@@ -45,7 +45,7 @@ fn ask_site(alloc: Global, replica: &mut Replica, asked: Ask) -> Outcome
     ensures unchanged { changes_nothing result ≡ true → IsUnchanged replica.old replica.new }
     ensures conditions { ComesOfAsk replica.old asked result replica.new }
 {
-    answer_told(ask(alloc, replica, &asked))
+    answer_outcome(ask(alloc, replica, &asked))
 }
 
 // Whether a site has a frame to cut: its buffer isn't empty, and a number is left.
@@ -97,7 +97,7 @@ fn cut_site(replica: &mut Replica, pool: &mut Vec<Frame>) -> Outcome
 // Puts a frame at the end of the pool, which has room for it. The outcome is its entry.
 fn put_frame(pool: &mut Vec<Frame>, frame: Frame) -> Outcome
     requires { vec_len pool.old + 1 ≤ vec_capacity pool.old }
-    ensures told { result ≡ Outcome.Cut (Ok (Some (length pool.old.items))) }
+    ensures outcome { result ≡ Outcome.Cut (Ok (Some (length pool.old.items))) }
     ensures pool { pool.new.items ≡ pool.old.items ++ frame ∷ [] }
 {
     let entry = pool.len();
@@ -131,8 +131,8 @@ fn whole_site(replica: &mut Replica, pool: &mut Vec<Frame>) -> Outcome
 }
 
 // The outcome of a take that fails; `NoMemory` when out of memory.
-fn take_fault_told(fault: TakeFault) -> Outcome
-    ensures { result ≡ take_fault_told fault }
+fn take_fault_outcome(fault: TakeFault) -> Outcome
+    ensures { result ≡ take_fault_outcome fault }
 {
     match fault {
         TakeFault::Memory => Outcome::NoMemory,
@@ -165,7 +165,7 @@ fn take_site(replica: &mut Replica, frame: &Frame) -> Outcome
     };
     match replica.take(copy) {
         Ok(()) => Outcome::Took(Ok(())),
-        Err((fault, _)) => take_fault_told(fault),
+        Err((fault, _)) => take_fault_outcome(fault),
     }
 }
 

@@ -16,10 +16,10 @@ same_status k l names request ok same =
     λ i. status_text names (λ queue. record { completed = shows.queue_totals queue Completed i; abandoned = shows.queue_totals queue Abandoned i }) (λ queue. shows.rows queue i) request
 
 -- an answer is one step of the site
-pub one_step : (old new : SiteState) (s : SiteKnowledge) (answer : Answer) (told : SiteKnowledge × Answer) → StandsFor old s → IsAnswered old new answer told
-    → IsOneStep new answer s told
-one_step old new s answer told stands (inl h) = record { after = told.0; stands = h.0; comes = inl (λ i. (told.0, h.1 i)) }
-one_step old new s answer told stands (inr h) = record {
+pub one_step : (old new : SiteState) (s : SiteKnowledge) (answer : Answer) (reported : SiteKnowledge × Answer) → StandsFor old s → IsAnswered old new answer reported
+    → IsOneStep new answer s reported
+one_step old new s answer reported stands (inl h) = record { after = reported.0; stands = h.0; comes = inl (λ i. (reported.0, h.1 i)) }
+one_step old new s answer reported stands (inr h) = record {
   after = s;
   stands = unchanged_stands old new s stands h.0;
   comes = inr (refl, h.1);

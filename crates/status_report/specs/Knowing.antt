@@ -43,10 +43,10 @@ IsAnswered old new answer after = (StandsFor new after.0 × (answer ≡ after.1)
 
 -- the result of an ask is the given one; or it is out of memory, and then the site knows what it knew
 abbrev pub MayComeOf : SiteKnowledge → SiteKnowledge × Answer → SiteKnowledge × Answer → Type 0
-MayComeOf s told after = (after ≡ told) ⊎ ((after.0 ≡ s) × (after.1 ≡ Refused Memory))
+MayComeOf s given after = (after ≡ given) ⊎ ((after.0 ≡ s) × (after.1 ≡ Refused Memory))
 
 -- an answer is that of one step of a site, and the new state stands for the site after it
-pub record IsOneStep (new : SiteState) (answer : Answer) (s : SiteKnowledge) (told : SiteKnowledge × Answer) : Type 0 where
+pub record IsOneStep (new : SiteState) (answer : Answer) (s : SiteKnowledge) (given : SiteKnowledge × Answer) : Type 0 where
   pub after : SiteKnowledge
   pub stands : StandsFor new after
-  pub comes : MayComeOf s told (after, answer)
+  pub comes : MayComeOf s given (after, answer)

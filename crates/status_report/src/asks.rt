@@ -75,7 +75,8 @@ impl Answer {
     {
         match (self, other) {
             (Answer::Done, Answer::Done) => true,
-            (Answer::Refused(refusal), Answer::Refused(told)) => *refusal == *told,
+            (Answer::Refused(refusal), Answer::Refused(other_refusal)) => *refusal
+                == *other_refusal,
             (Answer::Report(bytes), Answer::Report(others)) => bytes.same(others),
             _ => false,
         }

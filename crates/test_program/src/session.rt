@@ -39,7 +39,7 @@ use std::io::Read;
 
 // The parts of the command line.
 #[derive(Clone, Copy)]
-struct Told<'a> {
+struct Arguments<'a> {
     greeting: Option<&'a str>,
     tries: Option<&'a str>,
     frame: Option<&'a str>,
@@ -55,7 +55,7 @@ pub(crate) fn run<R: AllocGlobal + Print + Input>(
     rt: &R,
     words: &[String],
 ) -> io::Result<Option<u8>> {
-    let Some(told) = read_words(words) else {
+    let Some(arguments) = read_words(words) else {
         return Ok(None);
     };
     let mut stream = Vec::new(rt.alloc());
@@ -63,7 +63,7 @@ pub(crate) fn run<R: AllocGlobal + Print + Input>(
         drop(stream);
         return Err(error);
     }
-    let served = serve_told(rt, &stream, told);
+    let served = serve_session(rt, &stream, arguments);
     drop(stream);
     Ok(served.map(status))
 }
@@ -74,13 +74,13 @@ fn optional<'a>(front: &str, words: &'a [String]) -> (Option<&'a str>, &'a [Stri
         return (None, words);
     };
     match first.strip_prefix(front) {
-        Some(told) => (Some(told), rest),
+        Some(value) => (Some(value), rest),
         None => (None, words),
     }
 }
 
 // Parses the words of the command line.
-fn read_words(words: &[String]) -> Option<Told<'_>> {
+fn read_words(words: &[String]) -> Option<Arguments<'_>> {
     let (greeting, words) = optional("--greeting=", words);
     let (tries, words) = optional("--tries=", words);
     let (frame, words) = optional("--take=", words);
@@ -88,7 +88,7 @@ fn read_words(words: &[String]) -> Option<Told<'_>> {
         return None;
     };
     match piece.parse() {
-        Ok(piece) if piece > 0 => Some(Told {
+        Ok(piece) if piece > 0 => Some(Arguments {
             greeting,
             tries,
             frame,
@@ -103,18 +103,18 @@ fn read_words(words: &[String]) -> Option<Told<'_>> {
 
 // Serves a session by the words of the command line. `None`: a word is no text of a session, no list of queues, or no frame that
 // the site takes.
-fn serve_told<R: AllocGlobal + Print>(
+fn serve_session<R: AllocGlobal + Print>(
     rt: &R,
     stream: &[u8],
-    told: Told<'_>,
+    arguments: Arguments<'_>,
 ) -> Option<Result<(), ServeFault>> {
     let alloc = rt.alloc();
-    let session = session(told)?;
-    let Some(replica) = replica(alloc, told) else {
+    let session = session(arguments)?;
+    let Some(replica) = replica(alloc, arguments) else {
         drop(session);
         return None;
     };
-    let mut reader = MemorySource::new(stream, told.piece);
+    let mut reader = MemorySource::new(stream, arguments.piece);
     let mut writer = StdSink::new(io::writer(rt));
     let mut desk = ReplicaDesk::new(alloc, replica);
     let served = serve(
@@ -132,17 +132,17 @@ fn serve_told<R: AllocGlobal + Print>(
     Some(served)
 }
 
-fn session(told: Told<'_>) -> Option<Session> {
-    let session = if told.user.is_empty() {
+fn session(arguments: Arguments<'_>) -> Option<Session> {
+    let session = if arguments.user.is_empty() {
         Session::trusted()
     } else {
-        Session::new(text(told.user)?, text(told.secret)?)
+        Session::new(text(arguments.user)?, text(arguments.secret)?)
     };
-    let session = match told.tries {
+    let session = match arguments.tries {
         None => session,
         Some(tries) => session.with_tries(tries.parse().ok()?),
     };
-    match told.greeting {
+    match arguments.greeting {
         None => Some(session),
         Some(greeting) => Some(session.with_greeting(text(greeting)?)),
     }
@@ -153,11 +153,11 @@ fn text(word: &str) -> Option<Text80> {
 }
 
 // Site 0 of these queues, after it has taken the given frame, if there is one.
-fn replica(alloc: Global, told: Told<'_>) -> Option<Replica> {
+fn replica(alloc: Global, arguments: Arguments<'_>) -> Option<Replica> {
     let site = SiteId::new(0)?;
-    let list = queue_list(alloc, told.queues)?;
+    let list = queue_list(alloc, arguments.queues)?;
     let mut replica = Replica::new(alloc, site, list);
-    let Some(frame) = told.frame else {
+    let Some(frame) = arguments.frame else {
         return Some(replica);
     };
     if has_taken(alloc, &mut replica, frame) {

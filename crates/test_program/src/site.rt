@@ -48,7 +48,7 @@ pub(crate) enum Where {
 
 // The parts of the command line.
 #[derive(Clone, Copy)]
-struct Told<'a> {
+struct Arguments<'a> {
     at: Where,
     site: SiteId,
     limit: u32,
@@ -61,11 +61,11 @@ pub(crate) fn run<R: AllocGlobal + Print + Input + Wait>(
     at: Where,
     words: &[String],
 ) -> io::Result<Option<u8>> {
-    let Some(told) = read_words(at, words) else {
+    let Some(arguments) = read_words(at, words) else {
         return Ok(None);
     };
     let mut out = BufWriter::new(rt.alloc(), io::writer(rt))?;
-    let status = match work(rt, &mut out, &told) {
+    let status = match work(rt, &mut out, &arguments) {
         Ok(true) => out.flush().map(|()| Some(0)),
         Ok(false) => Ok(None),
         Err(error) => Err(error),
@@ -78,12 +78,12 @@ pub(crate) fn run<R: AllocGlobal + Print + Input + Wait>(
 fn work<R: AllocGlobal + Input + Wait, W: Write>(
     rt: &R,
     out: &mut W,
-    told: &Told<'_>,
+    arguments: &Arguments<'_>,
 ) -> io::Result<bool> {
-    let Some(journal) = journal(rt.alloc(), told) else {
+    let Some(journal) = journal(rt.alloc(), arguments) else {
         return Ok(false);
     };
-    match told.at {
+    match arguments.at {
         Where::Journal => work_at_journal(rt, out, journal)?,
         Where::Desk => work_at_desk::<Brand, R, W>(rt, out, Blank::new(1), journal)?,
     }
@@ -91,13 +91,13 @@ fn work<R: AllocGlobal + Input + Wait, W: Write>(
 }
 
 // Parses the words of the command line.
-fn read_words(at: Where, words: &[String]) -> Option<Told<'_>> {
+fn read_words(at: Where, words: &[String]) -> Option<Arguments<'_>> {
     let [site, limit, queues @ ..] = words else {
         return None;
     };
     let site = SiteId::new(site.parse().ok()?)?;
     let limit = limit.parse().ok()?;
-    Some(Told {
+    Some(Arguments {
         at,
         site,
         limit,
@@ -106,17 +106,17 @@ fn read_words(at: Where, words: &[String]) -> Option<Told<'_>> {
 }
 
 // The journal of a new site, by the words of the command line.
-fn journal(alloc: Global, told: &Told<'_>) -> Option<Journaled>
+fn journal(alloc: Global, arguments: &Arguments<'_>) -> Option<Journaled>
     ensures begun { IfSome result (λ journal. journal.count ≡ 0) }
     ensures site { IfSome result (λ journal.
         IsOfSite journal.base.site journal.base.names journal) }
 {
-    let limit = told.limit;
+    let limit = arguments.limit;
     if limit < 1 || limit > MOST_STEPS {
         return None;
     }
-    let list = queue_list(alloc, told.queues)?;
-    match Journaled::new(alloc, Replica::new(alloc, told.site, list), limit) {
+    let list = queue_list(alloc, arguments.queues)?;
+    match Journaled::new(alloc, Replica::new(alloc, arguments.site, list), limit) {
         Ok(journal) => Some(journal),
         Err((_, replica)) => {
             drop(replica);

@@ -1,15 +1,15 @@
 //! The ids of live dots: one each, kept while the dot is live, and never given again.
 use crate::shared::Change::{Assert, Kill};
 use crate::shared::{
-    Change, FIRST, OTHER, SECOND, SIP_1, SIP_2, ToldDot, ToldMember, do_changes, dot, member,
+    Change, DotParts, FIRST, InterfaceText, OTHER, SECOND, SIP_1, SIP_2, do_changes, dot, member,
     set_of,
 };
 use member_orset::{CellId, MemberSet};
 use std::process::Abort;
 
 // The id of a live dot. Asserts that the id gives the dot's member.
-fn id_of(rt: &impl Abort, set: &MemberSet, told: ToldDot, of: ToldMember) -> CellId {
-    let id = set.id(dot(rt, told)).expect(rt, "an id");
+fn id_of(rt: &impl Abort, set: &MemberSet, numbers: DotParts, of: InterfaceText) -> CellId {
+    let id = set.id(dot(rt, numbers)).expect(rt, "an id");
     let cell = set.at(id).expect(rt, "a live dot");
     let member = member(rt, of);
     assert!(*rt; *cell.member == member);

@@ -1,20 +1,20 @@
 //! Contexts: sets of dots, as runs.
 ghost use Rattle.std.specs.Prelude.{◌≤◌};
 
-use crate::shared::{ToldDot, dot, site};
+use crate::shared::{DotParts, dot, site};
 use causal_context::{Context, ContextFault, Run};
 use std::alloc::Global;
 use std::process::Abort;
 
 // Adds a dot, for which there is room.
-fn insert(rt: &impl Abort, context: &mut Context, told: ToldDot) {
-    assert!(*rt; context.insert(dot(rt, told)).is_ok());
+fn insert(rt: &impl Abort, context: &mut Context, numbers: DotParts) {
+    assert!(*rt; context.insert(dot(rt, numbers)).is_ok());
 }
 
 // The context of one dot.
-fn of_dot(rt: &impl Abort, alloc: Global, told: ToldDot) -> Context {
+fn of_dot(rt: &impl Abort, alloc: Global, numbers: DotParts) -> Context {
     let mut context = Context::new(alloc);
-    insert(rt, &mut context, told);
+    insert(rt, &mut context, numbers);
     context
 }
 

@@ -1,12 +1,12 @@
 //! Deltas: members and totals that are joined together. The cases of `cases/deltas` show the results of joins.
 use crate::shared::Change::Assert;
-use crate::shared::{FIRST, SIP_1, SIP_2, ToldMember, set_of, totals_of};
+use crate::shared::{FIRST, InterfaceText, SIP_1, SIP_2, set_of, totals_of};
 use delta::{Delta, JoinFault};
 use std::alloc::Global;
 use std::process::Abort;
 
 // A delta of the first dot, live as this member, and of a number of calls that site 0 completed in queue 0.
-fn delta_of(rt: &impl Abort, alloc: Global, by: ToldMember, completed: u16) -> Delta {
+fn delta_of(rt: &impl Abort, alloc: Global, by: InterfaceText, completed: u16) -> Delta {
     Delta::of(
         set_of(rt, alloc, &[Assert(FIRST, by, 5, 7)]),
         totals_of(rt, alloc, 0, completed),

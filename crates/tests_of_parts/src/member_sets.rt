@@ -4,8 +4,8 @@ ghost use Rattle.std.specs.Prelude.{◌≤◌};
 
 use crate::shared::Change::{Assert, Kill};
 use crate::shared::{
-    Change, FIRST, OTHER, SECOND, SIP_1, SIP_2, ToldDot, ToldMember, do_change, do_changes, dot,
-    fields, member, set_of, site,
+    Change, DotParts, FIRST, InterfaceText, OTHER, SECOND, SIP_1, SIP_2, do_change, do_changes,
+    dot, fields, member, set_of, site,
 };
 use causal_context::Context;
 use dots::Dot;
@@ -33,14 +33,14 @@ fn penalty_of(set: &MemberSet, dot: Dot) -> Option<u32> {
 }
 
 // Asserts what is known of a dot.
-fn assert_state(rt: &impl Abort, set: &MemberSet, told: ToldDot, state: State) {
-    let dot = dot(rt, told);
+fn assert_state(rt: &impl Abort, set: &MemberSet, numbers: DotParts, state: State) {
+    let dot = dot(rt, numbers);
     assert!(*rt; set.context().contains(dot) == state.0);
     assert!(*rt; set.live(dot).is_some() == state.1.is_some());
     assert!(*rt; penalty_of(set, dot) == state.1);
 }
 
-fn assert_there(rt: &impl Abort, set: &MemberSet, of: ToldMember, wanted: bool) {
+fn assert_there(rt: &impl Abort, set: &MemberSet, of: InterfaceText, wanted: bool) {
     let member = member(rt, of);
     assert!(*rt; set.contains(&member) == wanted);
     drop(member);
@@ -128,9 +128,9 @@ fn kill_dots(rt: &impl Abort, set: &mut MemberSet, site: u16, first: u64, dots: 
 }
 
 // Asserts whether each of these dots is in a context.
-fn assert_contains(rt: &impl Abort, context: &Context, dots: &[ToldDot], wanted: bool) {
-    for told in dots {
-        assert!(*rt; context.contains(dot(rt, *told)) == wanted);
+fn assert_contains(rt: &impl Abort, context: &Context, dots: &[DotParts], wanted: bool) {
+    for numbers in dots {
+        assert!(*rt; context.contains(dot(rt, *numbers)) == wanted);
     }
 }
 
@@ -139,9 +139,9 @@ fn assert_contains(rt: &impl Abort, context: &Context, dots: &[ToldDot], wanted:
 fn assert_seen(
     rt: &impl Abort,
     set: &MemberSet,
-    given: [ToldDot; 2],
-    these: &[ToldDot],
-    those: &[ToldDot],
+    given: [DotParts; 2],
+    these: &[DotParts],
+    those: &[DotParts],
     runs: usize,
 ) {
     let given = [dot(rt, given[0]), dot(rt, given[1])];
@@ -152,9 +152,9 @@ fn assert_seen(
     drop(seen);
 }
 
-const THIRD: ToldDot = (0, 3);
+const THIRD: DotParts = (0, 3);
 
-const LAST: ToldDot = (2, 131_070);
+const LAST: DotParts = (2, 131_070);
 
 // Asserts what is seen in the set of two live dots of site 0 with a dead one between them, of a live one of site 1, and of 65,534 dead ones
 // of site 2, each second one: with the runs of the others as many runs as there may be.

@@ -149,8 +149,8 @@ fn do_step(rt: &impl Abort, alloc: Global, world: &mut World, at: &str, step: &S
 }
 
 // The row of a member.
-fn row_of(rt: &impl Abort, alloc: Global, known: &[Operation], told: &str) -> String {
-    let member = member(rt, told);
+fn row_of(rt: &impl Abort, alloc: Global, known: &[Operation], member_text: &str) -> String {
+    let member = member(rt, member_text);
     let row = row(alloc, known, &member).expect(rt, "memory");
     let text = row_text(rt, alloc, row);
     drop(member);
@@ -172,8 +172,8 @@ fn rows_text(rt: &impl Abort, alloc: Global, known: &[Operation], queue: u16) ->
 }
 
 // The visible dots of a member.
-fn dots_text(rt: &impl Abort, alloc: Global, known: &[Operation], told: &str) -> String {
-    let member = member(rt, told);
+fn dots_text(rt: &impl Abort, alloc: Global, known: &[Operation], member_text: &str) -> String {
+    let member = member(rt, member_text);
     let dots = dots_of_member(alloc, known, &member).expect(rt, "memory");
     drop(member);
     let mut text = String::new(alloc);
@@ -214,9 +214,9 @@ fn filter(rt: &impl Abort, word: &str) -> Option<Text80> {
 }
 
 // Parses a report, written with a bar between lines.
-fn report(rt: &impl Abort, alloc: Global, told: &str) -> String {
+fn report(rt: &impl Abort, alloc: Global, lines: &str) -> String {
     let mut report = String::new(alloc);
-    for line in told.split('|') {
+    for line in lines.split('|') {
         push(rt, &mut report, line);
         push(rt, &mut report, "\r\n");
     }
@@ -224,8 +224,8 @@ fn report(rt: &impl Abort, alloc: Global, told: &str) -> String {
 }
 
 // Whether a text is this report.
-fn is_report(rt: &impl Abort, alloc: Global, told: &str, text: &str) -> bool {
-    let report = report(rt, alloc, told);
+fn is_report(rt: &impl Abort, alloc: Global, lines: &str, text: &str) -> bool {
+    let report = report(rt, alloc, lines);
     let is_same = report.as_str() == text;
     drop(report);
     is_same
@@ -249,8 +249,8 @@ fn report_text(
     let given = status(alloc, known, list, &request).expect(rt, "memory");
     drop(request);
     let mut text = utf8(rt, &given);
-    for (name, told) in reports {
-        if is_report(rt, alloc, told, text) {
+    for (name, lines) in reports {
+        if is_report(rt, alloc, lines, text) {
             text = name;
         }
     }
@@ -296,19 +296,19 @@ fn given(
     words: &mut Words<'_>,
 ) -> String {
     let first = word(rt, words);
-    let told = names.operations;
+    let texts = names.operations;
     match first {
         "knows" => {
-            let known = operations(rt, alloc, told, words);
+            let known = operations(rt, alloc, texts, words);
             drop(mem::replace(&mut site_at_mut(rt, world, "0").known, known));
         }
         "buffer" => {
-            let buffer = operations(rt, alloc, told, words);
+            let buffer = operations(rt, alloc, texts, words);
             drop(mem::replace(&mut site_at_mut(rt, world, "0").buffer, buffer));
         }
         "number" => site_at_mut(rt, world, "0").frames = number(rt, word(rt, words)),
         "frame" => {
-            let frame = operations(rt, alloc, told, words);
+            let frame = operations(rt, alloc, texts, words);
             world.frames.push(frame).expect(rt, "memory");
         }
         _ => return given_at(rt, alloc, world, names, first, words),
@@ -320,9 +320,9 @@ fn given(
 fn assert_each(rt: &impl Abort, alloc: Global, world: &mut World, names: &Names, lines: &str) {
     for line in lines.split('\n') {
         if says(line) {
-            let (told, wanted) = line_and_wanted(line);
-            let given = given(rt, alloc, world, names, &mut told.split_whitespace());
-            assert_given(rt, told, &given, wanted);
+            let (action, wanted) = line_and_wanted(line);
+            let given = given(rt, alloc, world, names, &mut action.split_whitespace());
+            assert_given(rt, action, &given, wanted);
             drop(given);
         }
     }

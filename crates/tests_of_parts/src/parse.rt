@@ -151,8 +151,8 @@ pub(crate) fn line_and_wanted(line: &str) -> (&str, &str) {
 }
 
 // Asserts the result of a line.
-pub(crate) fn assert_given(rt: &impl Abort, told: &str, given: &str, wanted: &str) {
-    assert!(*rt; given == wanted, "{told} gives {given}");
+pub(crate) fn assert_given(rt: &impl Abort, action: &str, given: &str, wanted: &str) {
+    assert!(*rt; given == wanted, "{action} gives {given}");
 }
 
 // Asserts that there is a story, which begins at a line of this first word, and that the lines before it have no content.

@@ -41,8 +41,8 @@ pub(crate) fn bytes_of(rt: &impl Abort, alloc: Global, name: &str) -> Vec<u8> {
 
 // Puts other bytes in these places, each written as `51=1`.
 fn put_each(rt: &impl Abort, bytes: &mut [u8], words: &mut Words<'_>) {
-    for told in words {
-        let (at, byte) = parts(rt, told, '=');
+    for word in words {
+        let (at, byte) = parts(rt, word, '=');
         let byte = byte.parse::<u8>().expect(rt, "a byte");
         *bytes.get_mut(place(rt, at)).expect(rt, "a place") = byte;
     }

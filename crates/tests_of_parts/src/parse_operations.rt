@@ -44,8 +44,8 @@ fn dots(rt: &impl Abort, alloc: Global, words: &mut Words<'_>) -> Vec<Dot> {
 fn members(rt: &impl Abort, alloc: Global, words: &mut Words<'_>) -> Vec<(Dot, Member)> {
     let mut dots = Vec::new(alloc);
     for word in words {
-        let (of, told) = parts(rt, word, '@');
-        dots.push((dot(rt, of), member(rt, told)))
+        let (of, member_text) = parts(rt, word, '@');
+        dots.push((dot(rt, of), member(rt, member_text)))
             .expect(rt, "memory");
     }
     dots
@@ -124,8 +124,8 @@ fn removed(rt: &impl Abort, alloc: Global, is_of_odd: bool, words: &mut Words<'_
 // The operation of a text: `add` with a dot, a member, a stamp, a penalty and older dots;
 // `write` or `write_many`; `remove` with dots, or `remove_odd` with a site and how many of its odd
 // counts; or `count` with a site, the kind and the total.
-fn operation(rt: &impl Abort, alloc: Global, told: &str) -> Operation {
-    let mut words = told.split_whitespace();
+fn operation(rt: &impl Abort, alloc: Global, text: &str) -> Operation {
+    let mut words = text.split_whitespace();
     let kind = word(rt, &mut words);
     if kind == "add" {
         added(rt, alloc, &mut words)
@@ -142,12 +142,12 @@ fn operation(rt: &impl Abort, alloc: Global, told: &str) -> Operation {
 pub(crate) fn operations(
     rt: &impl Abort,
     alloc: Global,
-    told: &[(&str, &str)],
+    texts: &[(&str, &str)],
     names: &mut Words<'_>,
 ) -> Vec<Operation> {
     let mut operations = Vec::new(alloc);
     for name in names {
-        let operation = operation(rt, alloc, text_of_name(rt, told, name));
+        let operation = operation(rt, alloc, text_of_name(rt, texts, name));
         operations.push(operation).expect(rt, "memory");
     }
     operations

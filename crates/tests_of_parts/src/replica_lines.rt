@@ -84,8 +84,8 @@ fn take(rt: &impl Abort, alloc: Global, replica: &mut Replica, frame: Frame) -> 
 }
 
 // The row of a member.
-fn row_of(rt: &impl Abort, alloc: Global, replica: &Replica, told: &str) -> String {
-    let member = member(rt, told);
+fn row_of(rt: &impl Abort, alloc: Global, replica: &Replica, member_text: &str) -> String {
+    let member = member(rt, member_text);
     let text = row_text(rt, alloc, replica.row(&member));
     drop(member);
     text
@@ -129,9 +129,9 @@ fn given(rt: &impl Abort, alloc: Global, replica: &mut Replica, words: &mut Word
 fn assert_each(rt: &impl Abort, alloc: Global, replica: &mut Replica, lines: &str) {
     for line in lines.split('\n') {
         if says(line) {
-            let (told, wanted) = line_and_wanted(line);
-            let given = given(rt, alloc, replica, &mut told.split_whitespace());
-            assert_given(rt, told, &given, wanted);
+            let (action, wanted) = line_and_wanted(line);
+            let given = given(rt, alloc, replica, &mut action.split_whitespace());
+            assert_given(rt, action, &given, wanted);
             drop(given);
         }
     }

@@ -11,42 +11,42 @@ use std::alloc::Global;
 use std::process::Abort;
 
 // A dot, as its site and its count.
-pub(crate) type ToldDot = (u16, u64);
+pub(crate) type DotParts = (u16, u64);
 
-pub(crate) const FIRST: ToldDot = (0, 1);
+pub(crate) const FIRST: DotParts = (0, 1);
 
-pub(crate) const SECOND: ToldDot = (0, 2);
+pub(crate) const SECOND: DotParts = (0, 2);
 
-pub(crate) const OTHER: ToldDot = (1, 1);
+pub(crate) const OTHER: DotParts = (1, 1);
 
 // A member of queue 0, as its interface.
-pub(crate) type ToldMember = &'static str;
+pub(crate) type InterfaceText = &'static str;
 
-pub(crate) const SIP_1: ToldMember = "SIP/1";
+pub(crate) const SIP_1: InterfaceText = "SIP/1";
 
-pub(crate) const SIP_2: ToldMember = "SIP/2";
+pub(crate) const SIP_2: InterfaceText = "SIP/2";
 
 // A change of a set.
 #[derive(Clone, Copy)]
 pub(crate) enum Change {
     // A dot of a member is asserted, with a penalty that site 0 has set: at which time, and the penalty.
-    Assert(ToldDot, ToldMember, u64, u32),
+    Assert(DotParts, InterfaceText, u64, u32),
     // A dot is killed.
-    Kill(ToldDot),
+    Kill(DotParts),
 }
 
 pub(crate) fn site(rt: &impl Abort, number: u16) -> SiteId {
     SiteId::new(number).expect(rt, "a site")
 }
 
-pub(crate) fn dot(rt: &impl Abort, told: ToldDot) -> Dot {
-    Dot::new(site(rt, told.0), told.1).expect(rt, "a dot")
+pub(crate) fn dot(rt: &impl Abort, numbers: DotParts) -> Dot {
+    Dot::new(site(rt, numbers.0), numbers.1).expect(rt, "a dot")
 }
 
-pub(crate) fn member(rt: &impl Abort, told: ToldMember) -> Member {
+pub(crate) fn member(rt: &impl Abort, member_text: InterfaceText) -> Member {
     Member {
         queue: 0,
-        interface: Interface::new(told.as_bytes()).expect(rt, "an interface"),
+        interface: Interface::new(member_text.as_bytes()).expect(rt, "an interface"),
     }
 }
 
@@ -71,9 +71,9 @@ pub(crate) fn fields(rt: &impl Abort, time: u64, number: u32) -> Fields
 pub(crate) fn do_change(
     rt: &impl Abort,
     set: &mut MemberSet,
-    told: Change,
+    change: Change,
 ) -> Result<(), JoinFault> {
-    match told {
+    match change {
         Assert(of, by, time, number) => {
             let member = member(rt, by);
             let fields = fields(rt, time, number);
@@ -88,8 +88,8 @@ pub(crate) fn do_change(
 
 // Does changes, of which none is refused.
 pub(crate) fn do_changes(rt: &impl Abort, set: &mut MemberSet, changes: &[Change]) {
-    for told in changes {
-        do_change(rt, set, *told).expect(rt, "a change");
+    for change in changes {
+        do_change(rt, set, *change).expect(rt, "a change");
     }
 }
 

@@ -179,7 +179,7 @@ fn hold_session<R: Net<Listener = TcpListener, Stream = TcpStream> + Abort>(
 }
 
 // A session with each of two sites. The first gets an add.
-pub(crate) fn tell_one_of_two<R: Net<Listener = TcpListener, Stream = TcpStream> + Abort>(
+pub(crate) fn add_at_one_of_two<R: Net<Listener = TcpListener, Stream = TcpStream> + Abort>(
     rt: &R,
     port: u16,
 ) {
@@ -275,7 +275,7 @@ where
 {
     match clients {
         Clients::One(client) => visit(rt, port, client),
-        Clients::OfTwoSites => tell_one_of_two(rt, port),
+        Clients::OfTwoSites => add_at_one_of_two(rt, port),
         Clients::AtOnce => meet(rt, port),
     }
 }

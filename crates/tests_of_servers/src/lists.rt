@@ -34,8 +34,8 @@ fn a_list_has_1_to_256_names_that_differ(rt: HostRuntime) {
     ];
     for (count, last, fault) in LISTS {
         let names = many_names(&rt, rt.alloc(), *count, *last);
-        let told = QueueList::new(rt.alloc(), &names).err();
+        let given = QueueList::new(rt.alloc(), &names).err();
         drop(names);
-        assert!(rt; told == *fault);
+        assert!(rt; given == *fault);
     }
 }

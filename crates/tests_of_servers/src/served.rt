@@ -321,7 +321,7 @@ fn a_session_has_more_messages_than_reads(rt: HostRuntime) {
     assert!(rt; served == Ok(()) && taken.get() == 32 + 55 * MESSAGES);
 }
 
-const WANTING: &str = "Response: Error\r\nMessage: Out of memory\r\n\r\n";
+const NO_MEMORY: &str = "Response: Error\r\nMessage: Out of memory\r\n\r\n";
 
 // How a session with an add and a status ended that ran out of memory at most once, as a word. It wrote the greeting and whole
 // replies; or the desk ran out of memory, the reply reports it, and the session went on.
@@ -338,8 +338,8 @@ fn end_of(rt: &impl Abort, served: Result<(), ServeFault>, written: &[u8]) -> &'
         return "whole";
     }
     assert!(*rt;
-        is_text(written, &[GREETING, WANTING, EMPTY_REPORT])
-            || is_text(written, &[GREETING, ADDED, WANTING])
+        is_text(written, &[GREETING, NO_MEMORY, EMPTY_REPORT])
+            || is_text(written, &[GREETING, ADDED, NO_MEMORY])
     );
     "reply"
 }

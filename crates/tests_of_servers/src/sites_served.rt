@@ -136,14 +136,14 @@ fn is_taken(ended: &Result<Vec<SiteOutput<()>>, ServeSitesFault>, port: u16) -> 
 }
 
 // Why three sites aren't served if two ports are in use; and whether their first port is free afterwards.
-fn assert_cannot_listen<R>(rt: &R, alloc: Global, port: u16, one: u16, other: u16, told: u16)
+fn assert_cannot_listen<R>(rt: &R, alloc: Global, port: u16, one: u16, other: u16, wanted_port: u16)
 where
     R: Net<Listener = TcpListener, Stream = TcpStream> + Abort + Threads + Wait + Clock + Sync,
 {
     let (one, other) = (bound(rt, HERE, one), bound(rt, HERE, other));
     let settings = settings(rt, 3, HERE, port, Limit::Usual);
     let (ended, log) = served(rt, alloc, &settings, 0, 10);
-    assert!(*rt; is_taken(&ended, told));
+    assert!(*rt; is_taken(&ended, wanted_port));
     drop(ended);
     drop(log);
     drop(settings);
@@ -172,7 +172,7 @@ enum End {
 
 // Serves two sites at 127.0.0.2 that take no client, over a log that fails after a number of writes. Asserts how that ends, and
 // returns what the log has taken.
-fn told<R>(rt: &R, alloc: Global, port: u16, writes: u64, wanted: End) -> MemorySink
+fn log_of_two_sites<R>(rt: &R, alloc: Global, port: u16, writes: u64, wanted: End) -> MemorySink
 where
     R: Net<Listener = TcpListener, Stream = TcpStream> + Abort + Threads + Wait + Clock + Sync,
 {
@@ -200,17 +200,17 @@ fn the_log_names_each_listener(rt: HostRuntime) {
         port + 1
     )
     .expect(&rt, "memory");
-    let log = told(&rt, alloc, port, 10, End::Served);
+    let log = log_of_two_sites(&rt, alloc, port, 10, End::Served);
     assert!(rt; log.as_slice() == lines.as_bytes());
     drop(log);
     // The second line fails.
-    let log = told(&rt, alloc, port, 1, End::WriteFailed);
+    let log = log_of_two_sites(&rt, alloc, port, 1, End::WriteFailed);
     assert!(rt; lines.as_bytes().starts_with(log.as_slice()) && !log.as_slice().is_empty());
     drop(log);
     drop(lines);
     // The log fails at once, but the fault of a port in use comes first.
     let taken = bound(&rt, there(), port);
-    let log = told(&rt, alloc, port, 0, End::Taken(port));
+    let log = log_of_two_sites(&rt, alloc, port, 0, End::Taken(port));
     assert!(rt; log.as_slice().is_empty());
     drop(log);
     drop(taken);

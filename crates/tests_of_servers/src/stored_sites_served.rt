@@ -3,7 +3,7 @@ ghost use Rattle.std.specs.List.{All};
 ghost use Rattle.std.specs.Prelude.{◌≡◌, vec_len};
 ghost use Rattle.replica.specs.Site.{IsSameSite};
 
-use crate::clients::{ADD, GREETING, LOGIN, assert_ends, connected, send, talk, tell_one_of_two};
+use crate::clients::{ADD, GREETING, LOGIN, add_at_one_of_two, assert_ends, connected, send, talk};
 use crate::replies::REPORT;
 use crate::serving::{HERE, Limit, events, free_port, settings};
 use crate::shared::replica;
@@ -181,7 +181,7 @@ fn stores_of_sites_that_end_have_all_steps(rt: HostRuntime) {
     let (ends, _) = join(
         lent,
         move || ends_of(lent, alloc, port, false),
-        move || tell_one_of_two(lent, port),
+        move || add_at_one_of_two(lent, port),
     );
     assert!(*lent; ends.len() == 2);
     for end in &ends {

@@ -37,7 +37,7 @@ enum Came {
 }
 
 // An event in short form: its site, what is asked there, and the expected outcome.
-type Told = (u16, Asked, Came);
+type ExpectedEvent = (u16, Asked, Came);
 
 fn command_of(rt: &impl Abort, asked: Asked) -> Command {
     match asked {
@@ -63,9 +63,9 @@ fn event_of(rt: &impl Abort, alloc: Global, at: u16, asked: Asked) -> Event {
     }
 }
 
-fn events_of(rt: &impl Abort, alloc: Global, told: &[Told]) -> Vec<Event> {
+fn events_of(rt: &impl Abort, alloc: Global, expected: &[ExpectedEvent]) -> Vec<Event> {
     let mut events = Vec::new(alloc);
-    for (at, asked, _) in told {
+    for (at, asked, _) in expected {
         let event = event_of(rt, alloc, *at, *asked);
         events.push(event).expect(rt, "memory");
     }
@@ -83,7 +83,7 @@ fn assert_outcome(rt: &impl Abort, outcome: &Outcome, wanted: Came) {
         (Outcome::Answered(Answer::Report(given)), Came::Reported(blocks)) => {
             assert_report(rt, given.as_slice(), blocks);
         }
-        (Outcome::Cut(Ok(Some(entry))), Came::Entry(told)) => assert!(*rt; *entry == told),
+        (Outcome::Cut(Ok(Some(entry))), Came::Entry(expected)) => assert!(*rt; *entry == expected),
         (Outcome::Took(Ok(())), Came::Taken) => {}
         (Outcome::NoSite, Came::NoSite) => {}
         (Outcome::NoEntry, Came::NoEntry) => {}
@@ -143,14 +143,14 @@ fn assert_outcomes(
     rt: &impl Abort,
     alloc: Global,
     world: &mut World,
-    told: &[Told],
+    expected: &[ExpectedEvent],
     entries: usize,
 ) {
-    let events = events_of(rt, alloc, told);
+    let events = events_of(rt, alloc, expected);
     let outcomes = ran(rt, world, &events);
     drop(events);
-    assert!(*rt; outcomes.len() == told.len());
-    for (outcome, (_, _, wanted)) in outcomes.iter().zip(told) {
+    assert!(*rt; outcomes.len() == expected.len());
+    for (outcome, (_, _, wanted)) in outcomes.iter().zip(expected) {
         assert_outcome(rt, outcome, *wanted);
     }
     drop(outcomes);
@@ -160,7 +160,7 @@ fn assert_outcomes(
 #[test]
 fn events_at_no_site_and_of_no_entry_have_outcomes(rt: HostRuntime) {
     const NOBODY: Came = Reported(&[QUEUE]);
-    const EVENTS: &[Told] = &[
+    const EVENTS: &[ExpectedEvent] = &[
         (5, Add("SIP/1", 0), NoSite),
         (5, Status, NoSite),
         (5, Cut, NoSite),
@@ -209,7 +209,7 @@ fn ten_thousand_events_are_run(rt: HostRuntime) {
 }
 
 // Two sites add SIP/1, and the first removes its own again; it takes the second's frame.
-const ADDED_TWICE: &[Told] = &[
+const ADDED_TWICE: &[ExpectedEvent] = &[
     (0, Add("SIP/1", 1), Done),
     (1, Add("SIP/1", 2), Done),
     (0, Cut, Entry(0)),
@@ -226,7 +226,7 @@ const WITH_TWO: Came = Reported(&[
 ]);
 
 // The second site takes both frames of the first one, and both show the same.
-const IN_TURN: &[Told] = &[
+const IN_TURN: &[ExpectedEvent] = &[
     (1, Take(0), Taken),
     (1, Take(1), Taken),
     (0, Status, WITH_TWO),
@@ -234,7 +234,7 @@ const IN_TURN: &[Told] = &[
 ];
 
 // Calls of two sites, and frames of one that are taken again and again.
-const COUNTED: &[Told] = &[
+const COUNTED: &[ExpectedEvent] = &[
     (0, Completed, Done),
     (0, Completed, Done),
     (1, Completed, Done),
@@ -278,9 +278,14 @@ fn happens_again(rt: &impl Abort, world: &mut World, event: &Event, wanted: Came
 }
 
 // Runs events one by one, and returns whether one of them ran out of memory at first.
-fn happen_again(rt: &impl Abort, world: &mut World, events: &[Event], told: &[Told]) -> bool {
+fn happen_again(
+    rt: &impl Abort,
+    world: &mut World,
+    events: &[Event],
+    expected: &[ExpectedEvent],
+) -> bool {
     let mut is_refused = false;
-    for (event, (_, _, wanted)) in events.iter().zip(told) {
+    for (event, (_, _, wanted)) in events.iter().zip(expected) {
         if happens_again(rt, world, event, *wanted) {
             is_refused = true;
         }

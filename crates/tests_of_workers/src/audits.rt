@@ -104,10 +104,10 @@ fn assert_differs(rt: &impl Abort, alloc: Global, second: &Journaled) {
     drop(added(rt, &mut first, b"SIP/1"));
     let own = shown(rt, alloc, first.replica());
     drop(first);
-    let told = shown(rt, alloc, second.replica());
-    assert!(*rt; own.as_slice() != told.as_slice());
+    let other = shown(rt, alloc, second.replica());
+    assert!(*rt; own.as_slice() != other.as_slice());
     drop(own);
-    drop(told);
+    drop(other);
 }
 
 #[test]
@@ -133,10 +133,10 @@ fn a_frame_that_no_site_has_made_is_a_step_and_in_no_run(rt: HostRuntime) {
 // Asserts that a site of a world reports what a journal's replica does.
 fn assert_same(rt: &impl Abort, alloc: Global, world: &World, journal: &Journaled) {
     let replica = world.replica(journal.base().site()).expect(rt, "a site");
-    let told = shown(rt, alloc, replica);
+    let other = shown(rt, alloc, replica);
     let own = shown(rt, alloc, journal.replica());
-    assert!(*rt; told.as_slice() == own.as_slice());
-    drop(told);
+    assert!(*rt; other.as_slice() == own.as_slice());
+    drop(other);
     drop(own);
 }
 

@@ -18,8 +18,8 @@ fn assert_length(rt: &impl Abort, journal: &Journaled, len: u64, start: u64) {
 // The answer to an ask, of which a step is.
 fn answer_of<'a>(rt: &impl Abort, step: &'a Step, asked: &Ask) -> &'a Answer {
     match &step.deed {
-        StepDeed::Asked(told, answer) => {
-            assert!(*rt; told.same(asked));
+        StepDeed::Asked(ask, answer) => {
+            assert!(*rt; ask.same(asked));
             answer
         }
         _ => rt.panic("another deed"),
@@ -58,9 +58,9 @@ fn refused(rt: &impl Abort, alloc: Global, journal: &mut Journaled, asked: &Ask)
     assert_is_there(rt, &step, asked);
     assert_length(rt, journal, 2, 0);
     assert_is_there(rt, journal.steps().get(1).expect(rt, "a step"), asked);
-    let told = shown(rt, alloc, journal.replica());
-    assert!(*rt; told.as_slice() == before.as_slice());
-    drop(told);
+    let after = shown(rt, alloc, journal.replica());
+    assert!(*rt; after.as_slice() == before.as_slice());
+    drop(after);
     drop(before);
     receipt_of(step, 1)
 }

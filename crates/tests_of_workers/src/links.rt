@@ -1,4 +1,4 @@
-//! Links: how many items they hold, what comes back, and when they end; and helpers that send and receive.
+//! Links: how many items they hold, what they give back, and when they end; and helpers that send and receive.
 ghost use Rattle.std.specs.Prelude.{◌≡◌, ◌≤◌};
 
 use crate::frames::shared;

@@ -18,7 +18,7 @@ use std::thread;
 use std::thread::Threads;
 
 // What is asserted of a pump whose bell rings a number of times: its plan, how many items must have come on the first link before the first
-// ring, before the second and so on, and before the end; what comes on each link, as the places of its cuts; how many receipts it gives, and
+// ring, before the second and so on, and before the end; the items of each link, as the places of its cuts; how many receipts it gives, and
 // the fault that stops it.
 #[derive(Drop)]
 pub(crate) struct Schedule<'a> {

@@ -16,12 +16,12 @@ err_is : {T : Type 0} (r : Result T ServeFault) (a b : ServeFault) → r ≡ Err
 err_is r a b one other = cc
 
 -- the result says whether a message ends the session
-as_told : (told end is : Bool) → told ≡ end → told ≡ is → end ≡ is
-as_told told end is tells test = sym tells ∙ test
+as_reported : (reported end is : Bool) → reported ≡ end → reported ≡ is → end ≡ is
+as_reported reported end is reports test = sym reports ∙ test
 
 -- the exit of a `?` gives the fault that came
-gives : {T : Type 0} (r : Result T ServeFault) (fault : ServeFault) → IsErrAnd r (λ told. told ≡ fault) → r ≡ Err fault
-gives r fault h = let told = err_from_is_err_and r h in told.1 ∙ ap Err told.2
+gives : {T : Type 0} (r : Result T ServeFault) (fault : ServeFault) → IsErrAnd r (λ reported. reported ≡ fault) → r ≡ Err fault
+gives r fault h = let reported = err_from_is_err_and r h in reported.1 ∙ ap Err reported.2
 
 pub returns-in_err-map_err-clause-left : goal.returns-in_err-map_err-clause-left
 returns-in_err-map_err-clause-left g c =
@@ -76,15 +76,15 @@ pub returns-in_err-message-clause-turns : goal.returns-in_err-message-clause-tur
 returns-in_err-message-clause-turns g c = λ turns.
     let fault = c.in_err-message.field-0.0 in
     let is : fault ≡ Turns = err_is c.from_residual-in_err-message.result fault Turns (gives c.from_residual-in_err-message.result fault c.from_residual-in_err-message.ensures.1) turns in
-    let told = c.in_err-message.ensures.has_read.turns (ap Err is) in
-    (told.1, turns_over g.D.Desk.answers _ _ _ _ _ _ _ _ _ _ _ _ _ told.0 c.messages.invariant.going c.next_message.ensures.come)
+    let reported = c.in_err-message.ensures.has_read.turns (ap Err is) in
+    (reported.1, turns_over g.D.Desk.answers _ _ _ _ _ _ _ _ _ _ _ _ _ reported.0 c.messages.invariant.going c.next_message.ensures.come)
 
 pub returns-then-ends-clause-served : goal.returns-then-ends-clause-served
 returns-then-ends-clause-served g c =
     let laws = c.messages_so_far.ensures in
     let is = c.in_ok-message.was ∙ ap Ok c.in-Some.is in
     served_by_end g.D.Desk.answers _ _ _ _ _ _ _ _ _ _ _ _ _ c.in-Some.message _ _ _ c.stream_of_two_pieces.ensures.rest laws.more laws.later
-    c.messages.invariant.going (next_so _ _ _ _ _ _ _ _ is c.next_message.ensures.come) c.in_ok-ends.ensures.performed.said (as_told _ _ _ c.in_ok-ends.ensures.ends c.if-ends.true)
+    c.messages.invariant.going (next_so _ _ _ _ _ _ _ _ is c.next_message.ensures.come) c.in_ok-ends.ensures.performed.said (as_reported _ _ _ c.in_ok-ends.ensures.ends c.if-ends.true)
 
 pub returns-then-ends-clause-bytes : goal.returns-then-ends-clause-bytes
 returns-then-ends-clause-bytes g c = given_few g.D.Desk.answers _ _ _ _ _ _ _ _ _ _ _ _ _ c.messages.invariant.going c.next_message.ensures.come
@@ -120,5 +120,5 @@ messages-preserved g c =
       writer = c.in_ok-ends.ensures.performed.writer.works;
       counted = let now = rw c.in-Some.is at c.in_ok-message.ensures.counted in omega (arith, now, c.messages.invariant.counted);
       going = going_on g.D.Desk.answers _ _ _ _ _ _ _ _ _ _ _ _ _ _ c.in-Some.message _ _ c.stream_of_two_pieces.ensures.rest laws.more laws.later
-          c.messages.invariant.going (next_so _ _ _ _ _ _ _ _ is c.next_message.ensures.come) c.in_ok-ends.ensures.performed.said c.in_ok-ends.ensures.session (as_told _ _ _ c.in_ok-ends.ensures.ends c.if-ends.false);
+          c.messages.invariant.going (next_so _ _ _ _ _ _ _ _ is c.next_message.ensures.come) c.in_ok-ends.ensures.performed.said c.in_ok-ends.ensures.session (as_reported _ _ _ c.in_ok-ends.ensures.ends c.if-ends.false);
     }

@@ -26,7 +26,7 @@ loop-placed-preserved g c =
     let v = c.loop-placed.invariant in
     let p = c.placed-item.result in
     let test = dead_there c.args.known.now.dots c.args.there in
-    let told = ap (λ t. dead_there c.args.known.now.dots t p.dot) (sym v.there) ∙ sym c.is_dead.ensures.value in
+    let reported = ap (λ t. dead_there c.args.known.now.dots t p.dot) (sym v.there) ∙ sym c.is_dead.ensures.value in
     elim c.if-is_dead.branch [
       | then-is_dead w ↦
           let some = ap is_some w.take.ensures.value ∙ next_there dots held spent a i after now v.freeing p c.loop-placed-test.true c.placed-item.is in
@@ -36,7 +36,7 @@ loop-placed-preserved g c =
             freeing = subst (λ (X : Type 0). X) (λ k. Freeing dots held spent (i + 1) (held_is k) (spent_is k)) (freed_more dots held spent a i after now v.freeing p c.loop-placed-test.true c.placed-item.is);
             there = c.is_dead.ensures.same ∙ v.there;
             chosen = subst (ChosenBefore test dots held (i + 1)) held_is
-                (freed_chosen dots held spent a i after now v.freeing p c.loop-placed-test.true c.placed-item.is test (told ∙ w.if-is_dead.true) v.chosen);
+                (freed_chosen dots held spent a i after now v.freeing p c.loop-placed-test.true c.placed-item.is test (reported ∙ w.if-is_dead.true) v.chosen);
             spare = let more = w.take.ensures.spare in let same = ap (λ x. x.spare) w.cells-is in omega arith;
           }
       | else-is_dead w ↦
@@ -46,7 +46,7 @@ loop-placed-preserved g c =
             freeing = subst (λ (X : Type 0). X) (λ k. Freeing dots held spent (i + 1) (held_is k) (spent_is k)) (kept_more dots held spent a i after now v.freeing);
             there = c.is_dead.ensures.same ∙ v.there;
             chosen = subst (ChosenBefore test dots held (i + 1)) held_is
-                (kept_chosen dots held spent a i after now v.freeing test p c.loop-placed-test.true c.placed-item.is (told ∙ w.if-is_dead.false) v.chosen);
+                (kept_chosen dots held spent a i after now v.freeing test p c.loop-placed-test.true c.placed-item.is (reported ∙ w.if-is_dead.false) v.chosen);
             spare = let same = ap (λ x. x.spare) w.cells-is in omega arith;
           }
     ]

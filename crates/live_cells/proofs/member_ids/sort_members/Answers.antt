@@ -9,8 +9,8 @@ use Rattle.live_cells.proofs.member_ids.sort_members.Goals as goal
 pub returns-then-are_sorted-clause-sorted : goal.returns-then-are_sorted-clause-sorted
 returns-then-are_sorted-clause-sorted g c k d lo l =
     let held = c.args.cells.now.held in
-    let told = c.is_sorted_by-are_sorted.ensures.cases (λ id other. is_le (id_order held id other)) (always_returns_same _ _ _ (λ a r f h. search (rules, of_calls))) in
-    let all = subst (λ b. IsAllAdjacentAnswer (λ x y r. r ≡ is_le (id_order held x y)) c.deref.result.now b) c.if-are_sorted.true told in
+    let reported = c.is_sorted_by-are_sorted.ensures.cases (λ id other. is_le (id_order held id other)) (always_returns_same _ _ _ (λ a r f h. search (rules, of_calls))) in
+    let all = subst (λ b. IsAllAdjacentAnswer (λ x y r. r ≡ is_le (id_order held x y)) c.deref.result.now b) c.if-are_sorted.true reported in
     let each = subst (λ ids. AllAdjacentBelow (λ x y. true ≡ is_le (id_order held x y)) ids (length ids)) c.deref.ensures.value all in
     not_before held _ _ (sym (each k d l))
 

@@ -13,4 +13,4 @@ returns-in-Err-clause-full c full = by c.in-Err.fault refl
     by Conflict is = absurd (sets_apart c.args.delta.now.members c.args.change.now.members c.requires (c.prepare.ensures.refusals.conflict.0 (c.in-Err.is ∙ ap Err is)))
     by CellsFull is = inl (c.prepare.ensures.refusals.cells_full.0 (c.in-Err.is ∙ ap Err is)).1
     by RunsFull is = inr (c.prepare.ensures.refusals.runs_full.0 (c.in-Err.is ∙ ap Err is)).2
-    by Memory is = absurd (let wanting = c.refusal_of.ensures.memory is in cc (full, wanting))
+    by Memory is = absurd (let no_memory = c.refusal_of.ensures.memory is in cc (full, no_memory))

@@ -13,7 +13,7 @@ returns-in-Err-clause-cause c =
 pub returns-in-Err-clause-found : goal.returns-in-Err-clause-found
 returns-in-Err-clause-found c fault some cause =
     let f = join_found c.args.state.now c.args.pending c.prepare.result c.prepare.ensures.refusals fault some cause in
-    let same : c.in-Err.fault ≡ f.0 = (let had = c.in-Err.is in let told = f.2 in cc) in
+    let same : c.in-Err.fault ≡ f.0 = (let had = c.in-Err.is in let reported = f.2 in cc) in
     let named : c.restore_fault.result ≡ fault = c.restore_fault.ensures ∙ ap restore_fault_of same ∙ f.1 in
     ap (λ (x : RestoreFault). Err x) named
 

@@ -17,10 +17,10 @@ returns-in-Some-clause-come g c =
 
 pub returns-in_err-message-clause-come : goal.returns-in_err-message-clause-come
 returns-in_err-message-clause-come g c =
-    let told = err_from_is_err_and c.from_residual.result c.from_residual.ensures.1 in
-    next_so _ _ _ _ _ _ _ _ (sym told.1)
+    let reported = err_from_is_err_and c.from_residual.result c.from_residual.ensures.1 in
+    next_so _ _ _ _ _ _ _ _ (sym reported.1)
     (come_so _ _ _ _ _ (λ stream. Gives stream [] c.pieces.incoming.feed.held × IsWanted _ stream) _
-    (λ stream x. fault_next c.in_err-message.field-0.0 told.0 c.pieces.incoming.feed _ _ stream told.2 c.pieces.invariant.reading.feed c.in_err-message.ensures.fault x.0 x.1)
+    (λ stream x. fault_next c.in_err-message.field-0.0 reported.0 c.pieces.incoming.feed _ _ stream reported.2 c.pieces.invariant.reading.feed c.in_err-message.ensures.fault x.0 x.1)
     c.pieces.invariant.come)
 
 pub pieces-init : goal.pieces-init
@@ -66,6 +66,6 @@ returns-in_err-read_piece-clause-come g c =
     let held = c.pieces.incoming.feed.held in
     let left = c.next_message.new.self.held in
     let before = come_so _ _ _ _ _ (λ stream. Gives stream [] held × IsWanted _ stream) (λ stream. Gives stream [] left) (λ stream x. laws.later stream held left [] [] x.0 rest.0) c.pieces.invariant.come in
-    let told = err_from_is_err_and c.from_residual-in_err-read_piece.result c.from_residual-in_err-read_piece.ensures.1 in
-    next_so _ _ _ _ _ _ _ _ (sym (told.1 ∙ ap Err told.2))
+    let reported = err_from_is_err_and c.from_residual-in_err-read_piece.result c.from_residual-in_err-read_piece.ensures.1 in
+    next_so _ _ _ _ _ _ _ _ (sym (reported.1 ∙ ap Err reported.2))
     (broken_came c.in_err-read_piece.field-0.0 _ _ _ _ left _ _ _ _ laws.more rest.1 before (held_so _ _ left _ _ _ _ _ c.in_err-read_piece.was c.read_piece.ensures.come))

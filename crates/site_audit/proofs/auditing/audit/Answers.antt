@@ -7,8 +7,8 @@ same_err : {T : Type 0} (r : Result T AuditFault) (a b : AuditFault) → r ≡ E
 same_err r a b one other = cc
 
 -- the fault that a `?` hands on is the one that came
-came : {T : Type 0} (r : Result T AuditFault) (fault : AuditFault) → IsErrAnd r (λ told. told ≡ fault) → r ≡ Err fault
-came r fault gives = let told = err_from_is_err_and r gives in told.1 ∙ ap Err told.2
+came : {T : Type 0} (r : Result T AuditFault) (fault : AuditFault) → IsErrAnd r (λ reported. reported ≡ fault) → r ≡ Err fault
+came r fault gives = let reported = err_from_is_err_and r gives in reported.1 ∙ ap Err reported.2
 
 pub returns-in_err-events-clause-not_fresh : goal.returns-in_err-events-clause-not_fresh
 returns-in_err-events-clause-not_fresh c = λ site.

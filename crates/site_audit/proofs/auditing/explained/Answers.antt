@@ -19,12 +19,12 @@ index-requires c =
 
 -- the events are stuck there
 pub returns-in-Some-clause-stuck : goal.returns-in-Some-clause-stuck
-returns-in-Some-clause-stuck c = λ site position told.
+returns-in-Some-clause-stuck c = λ site position reported.
     let least : IsLeastLeft c.args.journals.now c.args.replay.at.items c.in-Some.site =
     subst (λ xs. IsLeastLeft c.args.journals.now xs c.in-Some.site) c.as_slice.ensures.value c.in-Some.ensures.left in
     let here : slice_get c.args.replay.at.items c.in-Some.site ≡ Some c.index.result.now =
     slice_get_read c.args.replay.at.items (length c.args.replay.at.items) c.in-Some.site c.index.result.now refl (slice_get_within c.args.replay.at.items c.in-Some.site _ least.here) c.index.ensures in
-    let both = one_some (c.in-Some.site, c.index.result.now) (site, position) told in
+    let both = one_some (c.in-Some.site, c.index.result.now) (site, position) reported in
     let s : c.in-Some.site ≡ site = ap (λ (x : ℕ × ℕ). x.0) both in
     let p : c.index.result.now ≡ position = ap (λ (x : ℕ × ℕ). x.1) both in
     subst (λ n. IsStuck c.args.journals.now n position c.args.replay.events.items) s
@@ -33,5 +33,5 @@ returns-in-Some-clause-stuck c = λ site position told.
 
 -- each site has all its steps
 pub returns-clause-run : goal.returns-clause-run
-returns-clause-run c = λ told.
+returns-clause-run c = λ reported.
     ends_as_run c.args.journals.now c.args.replay c.requires.kept (subst (λ xs. (site : ℕ) → HasAllSteps c.args.journals.now xs site) c.as_slice.ensures.value c.in-None.ensures.none)

@@ -67,10 +67,10 @@ pub returns-in_err-cut-clause-stopped : goal.returns-in_err-cut-clause-stopped
 returns-in_err-cut-clause-stopped g c = let p = err_from_is_err_and c.from_residual.result c.from_residual.ensures.1 in
     let was = c.loop.invariant in
     let long = cuts_long _ _ was.cuts.2 in
-    rw (p.1, p.2) (λ told. (
+    rw (p.1, p.2) (λ reported. (
       was.cuts.0 + 1,
       omega (arith, c.if-not-wait.ensures.rings, was.cuts.1),
-      inl ((let same = ap length (c.in_err-cut.ensures.receipts.refused told) in omega (arith, same, long)), (c.in_err-cut.ensures.stopped told _ was.under_way).carried),
+      inl ((let same = ap length (c.in_err-cut.ensures.receipts.refused reported) in omega (arith, same, long)), (c.in_err-cut.ensures.stopped reported _ was.under_way).carried),
     ))
 
 pub returns-in_err-cut-2-clause-stopped : goal.returns-in_err-cut-2-clause-stopped
@@ -78,10 +78,10 @@ returns-in_err-cut-2-clause-stopped g c = let p = err_from_is_err_and c.from_res
     let was = c.loop.invariant in
     let long = cuts_long _ _ was.cuts.2 in
     let rings : g.B.Bell.rings c.match-next.bell ≡ g.B.Bell.rings c.loop.bell = elim c.match-next.branch [ in-None w ↦ ap g.B.Bell.rings w.bell-is | in-Some+then-not-wait w ↦ ap g.B.Bell.rings w.bell-is ∙ w.if-not-wait.ensures.rings ] in
-    rw (p.1, p.2) (λ told. (
+    rw (p.1, p.2) (λ reported. (
       was.cuts.0,
       rings ∙ was.cuts.1,
-      inl ((let same = ap length (c.in_err-cut-2.ensures.receipts.refused told) in omega (arith, same, long)), (c.in_err-cut-2.ensures.stopped told _ was.under_way).carried),
+      inl ((let same = ap length (c.in_err-cut-2.ensures.receipts.refused reported) in omega (arith, same, long)), (c.in_err-cut-2.ensures.stopped reported _ was.under_way).carried),
     ))
 
 pub returns-clause-stopped : goal.returns-clause-stopped
@@ -90,10 +90,10 @@ returns-clause-stopped g c = let finished : g.B.Bell.ended c.match-next.bell ≡
     let cut = c.in_ok-cut-2.ensures in
     let long = cuts_long _ _ (cuts_more _ _ _ cut.receipts.receipt.0 cut.receipts.receipt.2 cut.receipts.receipt.1 was.cuts.2) in
     let rings : g.B.Bell.rings c.match-next.bell ≡ g.B.Bell.rings c.loop.bell = elim c.match-next.branch [ in-None w ↦ ap g.B.Bell.rings w.bell-is | in-Some+then-not-wait w ↦ ap g.B.Bell.rings w.bell-is ∙ w.if-not-wait.ensures.rings ] in
-    both_faults c.finish.result _ _ _ (λ cause f same told. (
+    both_faults c.finish.result _ _ _ (λ cause f same reported. (
       was.cuts.0,
       rings ∙ was.cuts.1,
-      inr (ap length (same told) ∙ long, finished, f told _ _ (cut.ok _ was.under_way)),
+      inr (ap length (same reported) ∙ long, finished, f reported _ _ (cut.ok _ was.under_way)),
     )) c.finish.ensures.stopped c.finish.ensures.receipts.refused
 
 pub returns-in_err-cut-clause-work : goal.returns-in_err-cut-clause-work

@@ -4,7 +4,7 @@ use Rattle.sites_world.proofs.Happenings.{at_site_happened, may_take_all, no_sit
 use Rattle.sites_world.proofs.Lists.{at_least}
 use Rattle.sites_world.proofs.SteppedHistories.{reached_history}
 use Rattle.sites_world.proofs.Unchanged.{site_unchanged, sites_unchanged}
-use Rattle.sites_world.proofs.ToldByConditions.{leads_at, leads_nowhere}
+use Rattle.sites_world.proofs.OutcomesByConditions.{leads_at, leads_nowhere}
 use Rattle.sites_world.proofs.run.happen.Goals as goal
 
 -- at the site of the event

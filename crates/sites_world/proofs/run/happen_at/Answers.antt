@@ -1,7 +1,7 @@
 use Rattle.std.proofs.Common.{[], append-nil, refl, slice_get, sym, ap, subst, ◌∙◌}
 use Rattle.replica.specs.Steps.{after_frame, cut}
 use Rattle.sites_world.specs.declared.outcome.Outcome.TheVariants.{NoEntry}
-use Rattle.sites_world.specs.Telling.{HasHappenedAt}
+use Rattle.sites_world.specs.SiteOutcomes.{HasHappenedAt}
 use Rattle.sites_world.specs.Worlds.{happens_at, site_of, taken}
 use Rattle.sites_world.specs.WorldStates.{IsFrameOf}
 use Rattle.sites_world.proofs.Happenings.{framed_happened, missing_happened, taken_happened}

@@ -3,7 +3,7 @@ use Rattle.std.proofs.lemmas.List.{take_all, take_more}
 use Rattle.sites_world.specs.Worlds.{IsReached, done_of, run}
 use Rattle.sites_world.specs.WorldStates.{HaveHappened, WorldState}
 use Rattle.sites_world.specs.Conditions.{EventsLead}
-use Rattle.sites_world.proofs.ToldByConditions.{lead_on}
+use Rattle.sites_world.proofs.OutcomesByConditions.{lead_on}
 use Rattle.sites_world.proofs.Happenings.{happened_more, none_happened, reached_more}
 use Rattle.sites_world.proofs.KeptWorlds.{world_after_event}
 use Rattle.sites_world.proofs.run.run_all.Goals as goal
@@ -12,7 +12,7 @@ use Rattle.sites_world.proofs.run.run_all.Goals as goal
 pub loop-event-init : goal.loop-event-init
 loop-event-init c = record {
   count = refl;
-  told = let len = c.args.outcomes.now.ok.0 in let none = ap length c.requires.none in omega (arith, len, none);
+  reported = let len = c.args.outcomes.now.ok.0 in let none = ap length c.requires.none in omega (arith, len, none);
   room = let room = c.requires.room in omega (arith, room);
   happened = λ names w reached stands. none_happened (record { names = names; sites = c.args.sites.now.items; pool = c.args.pool.now.items }) w c.args.outcomes.now.items c.requires.none stands;
   world = λ names is. is;
@@ -23,7 +23,7 @@ loop-event-init c = record {
 pub loop-event-preserved : goal.loop-event-preserved
 loop-event-preserved c = record {
   count = c.happen_by_copy-outcome.ensures.count ∙ c.loop-event.invariant.count;
-  told = let len = c.push_reserved.ensures.len in let before = c.loop-event.invariant.told in omega (arith, len, before);
+  reported = let len = c.push_reserved.ensures.len in let before = c.loop-event.invariant.reported in omega (arith, len, before);
   room = let capacity = c.push_reserved.ensures.capacity in let before = c.loop-event.invariant.room in omega (arith, capacity, before);
   happened = λ names w reached stands.
       let events = c.args.events.now in

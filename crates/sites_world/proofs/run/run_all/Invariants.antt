@@ -8,7 +8,7 @@ use Rattle.sites_world.proofs.run.run_all.Given as goal
 abbrev pub invariant-loop-event : goal.invariant-loop-event
 invariant-loop-event l = record {
   count : length l.sites.items ≡ length l.initial.sites.items;
-  told : vec_len l.outcomes ≡ l.event-index;
+  reported : vec_len l.outcomes ≡ l.event-index;
   room : length l.events ≤ vec_capacity l.outcomes;
   happened : (names : List (List ℕ)) (w : World) → IsReached names (length l.initial.sites.items) w
       → StandsForWorld (record { names = names; sites = l.initial.sites.items; pool = l.initial.pool.items }) w

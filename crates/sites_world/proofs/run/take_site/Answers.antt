@@ -5,11 +5,11 @@ use Rattle.replica.proofs.PlannedCommands.{itself}
 use Rattle.replica.proofs.StandingSites.{equal_same}
 use Rattle.sites_world.specs.declared.outcome.Outcome.TheVariants.{Took}
 use Rattle.sites_world.specs.Outcomes.{changes_nothing}
-use Rattle.sites_world.specs.Telling.{IsTakenSo}
-use Rattle.sites_world.specs.Worlds.{take_told}
-use Rattle.sites_world.proofs.ToldAnswers.{told_fault}
+use Rattle.sites_world.specs.SiteOutcomes.{IsTakenSo}
+use Rattle.sites_world.specs.Worlds.{take_result}
+use Rattle.sites_world.proofs.OutcomeAnswers.{reported_fault}
 use Rattle.sites_world.specs.Conditions.{ComesOfDelta}
-use Rattle.sites_world.proofs.ToldByConditions.{fault_comes}
+use Rattle.sites_world.proofs.OutcomesByConditions.{fault_comes}
 use Rattle.sites_world.proofs.run.take_site.Goals as goal
 use Rattle.sites_world.proofs.run.take_site.Goals.{in-Ok-take, in-Err}
 
@@ -22,11 +22,11 @@ returns-clause-meaning c = λ s k stands is may.
     elim c.match-take.branch [
       | in-Ok-take w ↦
           let meant = w.in-Ok-take.ensures.meaning s k stands copied may.none_later in
-          inl (w.result-is ∙ ap (λ x. Took (take_told x)) (sym meant.1), meant.0)
+          inl (w.result-is ∙ ap (λ x. Took (take_result x)) (sym meant.1), meant.0)
       | in-Err w ↦
           let refused = w.in-Err.ensures.refusals in
-          subst (IsTakenSo new s (take s k)) (sym (w.result-is ∙ w.take_fault_told.ensures))
-          (told_fault old new s k c.in-Ok.copy.delta w.in-Err.fault may copied stands w.in-Err.ensures.unchanged
+          subst (IsTakenSo new s (take s k)) (sym (w.result-is ∙ w.take_fault_outcome.ensures))
+          (reported_fault old new s k c.in-Ok.copy.delta w.in-Err.fault may copied stands w.in-Err.ensures.unchanged
           refused.no_such_queue.0 (λ e. (refused.not_mine.0 e).1) (λ e. (refused.conflict.0 e).1) (w.in-Err.ensures.meaning s k stands copied may.none_later))
     ]
 
@@ -49,7 +49,7 @@ returns-clause-conditions c = λ k is may.
       | in-Err w ↦ (
         copy,
         c.in-Ok.ensures.same.delta,
-        subst (λ o. ComesOfDelta old copy o new) (sym (w.result-is ∙ w.take_fault_told.ensures))
+        subst (λ o. ComesOfDelta old copy o new) (sym (w.result-is ∙ w.take_fault_outcome.ensures))
             (fault_comes old new k copy w.in-Err.fault may copied w.in-Err.ensures.unchanged w.in-Err.ensures.refusals),
       )
     ]

@@ -7,5 +7,5 @@ use Rattle.store_audit.proofs.auditing.explain_fresh.Goals as goal
 pub unreachable-requires-in-Err-NotFresh : goal.unreachable-requires-in-Err-NotFresh
 unreachable-requires-in-Err-NotFresh c =
     let site = c.in-Err-NotFresh.field-0-0 in
-    let told : c.explain.result ≡ Err (NotFresh site) = c.in-Err-NotFresh.is ∙ ap Err c.in-Err-NotFresh.field-0-is in
-    never_stale c.args.journals.now site c.requires.fresh ((c.explain.ensures.not_fresh site).0 told).1
+    let reported : c.explain.result ≡ Err (NotFresh site) = c.in-Err-NotFresh.is ∙ ap Err c.in-Err-NotFresh.field-0-is in
+    never_stale c.args.journals.now site c.requires.fresh ((c.explain.ensures.not_fresh site).0 reported).1

@@ -7,7 +7,7 @@ use Rattle.dots.specs.Orders.{member_cmp}
 use Rattle.live_cells.specs.Index.{Listed}
 use Rattle.live_cells.specs.PlacedStates.{listed_at}
 use Rattle.live_cells.proofs.IndexPlaces.{past_from}
-use Rattle.live_cells.proofs.ListedIds.{as_long, told_there}
+use Rattle.live_cells.proofs.ListedIds.{as_long, reported_there}
 use Rattle.live_cells.proofs.member_index.MemberIndex.end_of.Goals as goal
 
 pub loop-end-init : goal.loop-end-init
@@ -33,7 +33,7 @@ loop-end-preserved g c =
         | inr h ↦
             let here : k ≡ end = omega arith in
             ap (λ n. is_le (member_cmp (get_or (listed_at held ids) n d).member m)) here
-            ∙ sym (told_there held ids c.args.self.indexed.held (λ l. is_le (member_cmp l.member m)) end id d c.loop-end-test.true)
+            ∙ sym (reported_there held ids c.args.self.indexed.held (λ l. is_le (member_cmp l.member m)) end id d c.loop-end-test.true)
             ∙ ap (λ i. option_map_or (λ x. is_le (member_cmp x.member m)) (map.get held i) false) (sym c.index-members-end.is)
             ∙ sym c.is_upto.ensures ∙ c.if-not-is_upto.false
       ];
@@ -48,7 +48,7 @@ returns-then-not-is_upto-clause-end g c =
     let id = c.index-members-end.result in
     let no_entry : Listed = record { member = m; dot = record { site = 0; count = 0 } } in
     let greater : is_le (member_cmp (get_or (listed_at held ids) end no_entry).member m) ≡ false =
-    sym (told_there held ids c.args.self.indexed.held (λ l. is_le (member_cmp l.member m)) end id no_entry c.loop-end-test.true)
+    sym (reported_there held ids c.args.self.indexed.held (λ l. is_le (member_cmp l.member m)) end id no_entry c.loop-end-test.true)
     ∙ ap (λ i. option_map_or (λ x. is_le (member_cmp x.member m)) (map.get held i) false) (sym c.index-members-end.is)
     ∙ sym c.is_upto.ensures ∙ c.if-not-is_upto.true in (
       c.loop-end.invariant.upto,

@@ -6,7 +6,7 @@ use Rattle.dots.specs.Orders.{member_cmp}
 use Rattle.live_cells.specs.Index.{Listed}
 use Rattle.live_cells.specs.PlacedStates.{listed_at}
 use Rattle.live_cells.proofs.IndexPlaces.{first_own, none_own}
-use Rattle.live_cells.proofs.ListedIds.{as_long, told_there}
+use Rattle.live_cells.proofs.ListedIds.{as_long, reported_there}
 use Rattle.live_cells.proofs.member_index.MemberIndex.has_member.Goals as goal
 
 pub returns-then-place-members : goal.returns-then-place-members
@@ -29,5 +29,5 @@ returns g c =
     let inside : place < length ids = omega arith in
     c.is_upto.ensures
     ∙ ap (λ i. option_map_or (λ x. is_le (member_cmp x.member m)) (map.get held i) false) c.index-members-place.is
-    ∙ told_there held ids c.args.self.indexed.held (λ l. is_le (member_cmp l.member m)) place id no_entry inside
+    ∙ reported_there held ids c.args.self.indexed.held (λ l. is_le (member_cmp l.member m)) place id no_entry inside
     ∙ first_own m (listed_at held ids) place no_entry c.args.self.indexed.index.rises c.place_of-place.ensures.first (omega arith)

@@ -6,7 +6,7 @@ use Rattle.std.specs.List.{AllWithin}
 use Rattle.std.specs.Ordering.{is_lt}
 use Rattle.std.specs.Prelude.{List, false, get_or}
 use Rattle.live_cells.specs.declared.placed.Placed.{Placed}
-use Rattle.live_cells.proofs.DotTests.{told_apart, told_same}
+use Rattle.live_cells.proofs.DotTests.{tested_other, tested_same}
 use Rattle.live_cells.proofs.CellsOfDots.{Ahead, at_cells, gap_cells}
 use Rattle.live_cells.proofs.Rising as rising
 use Rattle.live_cells.proofs.placed_cells.PlacedCells.find_from.Goals as goal
@@ -33,7 +33,7 @@ returns-then-ne-clause-missed g c =
     let ahead = subst (λ ds. Ahead c.args.dot ds at) same c.place_from-place.ensures.before in
     let past = subst (λ ds. AllWithin (λ p. is_lt (dot_cmp p.dot c.args.dot) ≡ false) ds at (length ds)) same c.place_from-place.ensures.after in
     let inside : at < length s.dots = let n = c.if-place-dots.false in omega arith in
-    let other = subst (λ (p : Placed). c.args.dot ≢ p.dot) (sym c.index-dots-place.is) (told_apart (get_or c.placed-dots.result.list.now at x).dot c.args.dot c.ne.result c.ne.ensures c.if-ne.true) in
+    let other = subst (λ (p : Placed). c.args.dot ≢ p.dot) (sym c.index-dots-place.is) (tested_other (get_or c.placed-dots.result.list.now at x).dot c.args.dot c.ne.result c.ne.ensures c.if-ne.true) in
     gap_cells s.dots s.held c.placed-dots.ensures.valid.there c.args.dot at within ahead
     (rising.lies_after dot_cmp dots_total dots_exact (λ p. p.dot) (λ p. p.id) c.args.dot s.dots at x inside (subst (λ ds. x ≡ get_or ds at x) same c.index-dots-place.is) other past) x
 
@@ -47,5 +47,5 @@ returns-clause-found g c =
     let within : at ≤ length s.dots = subst (λ (ds : List Placed). at ≤ length ds) same c.place_from-place.ensures.within in
     let ahead = subst (λ ds. Ahead c.args.dot ds at) same c.place_from-place.ensures.before in
     let inside : at < length s.dots = let n = c.if-place-dots.false in omega arith in
-    let is = subst (λ (p : Placed). c.args.dot ≡ p.dot) (sym c.index-dots-place.is) (told_same (get_or c.placed-dots.result.list.now at x).dot c.args.dot c.ne.result c.ne.ensures c.if-ne.false) in
+    let is = subst (λ (p : Placed). c.args.dot ≡ p.dot) (sym c.index-dots-place.is) (tested_same (get_or c.placed-dots.result.list.now at x).dot c.args.dot c.ne.result c.ne.ensures c.if-ne.false) in
     at_cells s.dots s.held c.placed-dots.ensures.valid.there c.args.dot at x inside ahead (is ∙ ap (λ p. p.dot) (subst (λ ds. x ≡ get_or ds at x) same c.index-dots-place.is))

@@ -10,12 +10,12 @@ use Rattle.member_orset.specs.Members.{IsPresent}
 use Rattle.member_orset.specs.Reads.{dots_seen_below}
 use Rattle.replica.specs.declared.refusal.Refusal.TheVariants.{AlreadyThere, MembersFull}
 use Rattle.replica.specs.Changes.{AddMember, Refused, is_used_up}
-use Rattle.replica.specs.Commands.{IsToldOfAdds, MayWantMemory}
+use Rattle.replica.specs.Commands.{IsRefusalOfAdds, MayWantMemory}
 use Rattle.replica.specs.Planning.{IsPlan, IsUnplanned}
 use Rattle.replica.specs.SetFields.{fields_added}
 use Rattle.replica.specs.Writing.{one_held}
 use Rattle.replica.specs.Site.{meaning_at}
-use Rattle.replica.proofs.PlannedAdds.{add_long, add_plan, add_there, add_told, add_wants, used_up}
+use Rattle.replica.proofs.PlannedAdds.{add_long, add_plan, add_there, add_reported, add_wants, used_up}
 use Rattle.replica.proofs.replica.Replica.plan_add.Goals as goal
 
 one : (n : ℕ) → n + 1 ≡ suc n
@@ -30,17 +30,17 @@ returns-then-contains c = inr
 pub returns-in_default-new : goal.returns-in_default-new
 returns-in_default-new c =
     subst (λ s. IsUnplanned (meaning_at s (AddMember c.args.queue.now c.args.interface c.args.penalty c.args.paused c.args.label)) c.refuse_add.result) c.self.view_is
-    (add_told _ c.self.invariant.kept c.self.invariant.state_limits c.args.queue.now c.args.interface c.args.penalty c.args.paused c.args.label c.in-Some.number (sym c.position.ensures.number ∙ c.in-Some.is)
+    (add_reported _ c.self.invariant.kept c.self.invariant.state_limits c.args.queue.now c.args.interface c.args.penalty c.args.paused c.args.label c.in-Some.number (sym c.position.ensures.number ∙ c.in-Some.is)
     (λ present. absurd (true≢false (sym (c.contains.ensures.1 (subst (λ m. IsPresent m (record { queue = c.in-Some.number; interface = c.args.interface })) (sym c.members.ensures.value) present)) ∙ c.if-contains.false)))
-    c.refuse_add.result (subst (λ s. IsToldOfAdds s c.refuse_add.result) (sym c.self.view_is) c.refuse_add.ensures)
+    c.refuse_add.result (subst (λ s. IsRefusalOfAdds s c.refuse_add.result) (sym c.self.view_is) c.refuse_add.ensures)
     (ap (λ b. b || is_used_up (suc c.self.inside.time)) (used_up c.self.inside.count (λ is. absurd (let some = c.in_default-new.ensures.within.1 (subst IsCount (sym (one c.self.inside.count)) is) in cc)))))
 
 pub returns-in_default-new-2 : goal.returns-in_default-new-2
 returns-in_default-new-2 c =
     subst (λ s. IsUnplanned (meaning_at s (AddMember c.args.queue.now c.args.interface c.args.penalty c.args.paused c.args.label)) c.refuse_add-in_default-new-2.result) c.self.view_is
-    (add_told _ c.self.invariant.kept c.self.invariant.state_limits c.args.queue.now c.args.interface c.args.penalty c.args.paused c.args.label c.in-Some.number (sym c.position.ensures.number ∙ c.in-Some.is)
+    (add_reported _ c.self.invariant.kept c.self.invariant.state_limits c.args.queue.now c.args.interface c.args.penalty c.args.paused c.args.label c.in-Some.number (sym c.position.ensures.number ∙ c.in-Some.is)
     (λ present. absurd (true≢false (sym (c.contains.ensures.1 (subst (λ m. IsPresent m (record { queue = c.in-Some.number; interface = c.args.interface })) (sym c.members.ensures.value) present)) ∙ c.if-contains.false)))
-    c.refuse_add-in_default-new-2.result (subst (λ s. IsToldOfAdds s c.refuse_add-in_default-new-2.result) (sym c.self.view_is) c.refuse_add-in_default-new-2.ensures)
+    c.refuse_add-in_default-new-2.result (subst (λ s. IsRefusalOfAdds s c.refuse_add-in_default-new-2.result) (sym c.self.view_is) c.refuse_add-in_default-new-2.ensures)
     (ap (λ b. is_used_up (suc c.self.inside.count) || b) (used_up c.self.inside.time (λ is. absurd (let some = c.in_default-new-2.ensures.within.1 (subst IsCount (sym (one c.self.inside.time)) is) in cc)))
     ∙ or-true (is_used_up (suc c.self.inside.count))))
 

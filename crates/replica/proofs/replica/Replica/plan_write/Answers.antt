@@ -9,7 +9,7 @@ use Rattle.member_orset.specs.Members.{dot_view_of}
 use Rattle.member_orset.specs.Reads.{dots_seen_below}
 use Rattle.replica.specs.declared.refusal.Refusal.TheVariants.{MembersFull}
 use Rattle.replica.specs.Changes.{Refused, meaning_of_setting, time_replaced}
-use Rattle.replica.specs.Commands.{IsToldOfWrites, MayWantMemory}
+use Rattle.replica.specs.Commands.{IsRefusalOfWrites, MayWantMemory}
 use Rattle.replica.specs.DotLists.{DotsRise}
 use Rattle.replica.specs.Planning.{IsPlan, IsUnplanned}
 use Rattle.replica.specs.SetFields.{fields_written}
@@ -18,7 +18,7 @@ use Rattle.replica.specs.Site.{view_of}
 use Rattle.replica.specs.SiteViews.{dots_seen, greatest}
 use Rattle.replica.specs.Writing.{written_to}
 use Rattle.replica.proofs.GreatestTimes.{greatest_firsts}
-use Rattle.replica.proofs.PlannedWrites.{seen_few, some_seen, write_long, write_plan, write_told, write_wants}
+use Rattle.replica.proofs.PlannedWrites.{seen_few, some_seen, write_long, write_plan, write_reported, write_wants}
 use Rattle.replica.proofs.SeenLists.{seen_all_live, seen_rise}
 use Rattle.replica.proofs.replica.Replica.plan_write.Goals as goal
 
@@ -49,8 +49,8 @@ returns-in_default-new c =
     ∙ sym (greatest_firsts (time_replaced (dot_view_of c.self.inside.state.members) (setting_of c.args.setting)) (dots_seen (dot_view_of c.self.inside.state.members) c.args.queue c.args.interface.now))) i))) ∙ one _ in
     let some = some_seen (dots_seen (dot_view_of c.self.inside.state.members) c.args.queue c.args.interface.now) c.deref.result.now _ c.is_empty.result first c.deref.ensures.len c.is_empty.ensures c.if-is_empty.false in
     subst (λ s. IsUnplanned (meaning_of_setting s.site (view_of s s.state) (view_of s s.pending) (setting_of c.args.setting) (dots_seen (view_of s s.state).dots c.args.queue c.args.interface.now)) c.refuse_write.result) c.self.view_is
-    (write_told _ c.self.invariant.kept c.self.invariant.state_limits c.args.queue c.args.interface.now (setting_of c.args.setting) some c.deref-in_default-new.result.now c.refuse_write.result
-    (c.deref-in_default-new.ensures.value ∙ c.in-Ok.ensures.list ∙ seen_are) (subst (λ s. IsToldOfWrites s c.deref-in_default-new.result.now c.refuse_write.result) (sym c.self.view_is) c.refuse_write.ensures)
+    (write_reported _ c.self.invariant.kept c.self.invariant.state_limits c.args.queue c.args.interface.now (setting_of c.args.setting) some c.deref-in_default-new.result.now c.refuse_write.result
+    (c.deref-in_default-new.ensures.value ∙ c.in-Ok.ensures.list ∙ seen_are) (subst (λ s. IsRefusalOfWrites s c.deref-in_default-new.result.now c.refuse_write.result) (sym c.self.view_is) c.refuse_write.ensures)
     (λ is. absurd (let none = c.in_default-new.ensures.within.1 (subst IsCount (sym time) is) in cc)))
 
 pub written-requires-clause-rise : goal.written-requires-clause-rise

@@ -9,8 +9,8 @@ same_err : {T : Type 0} (r : Result T ScriptFault) (a b : ScriptFault) → r ≡
 same_err r a b one other = cc
 
 -- the fault that a `?` hands on is the one that came
-came : {T : Type 0} (r : Result T ScriptFault) (fault is : ScriptFault) → IsErrAnd r (λ told. told ≡ fault) → r ≡ Err is → fault ≡ is
-came r fault is gives by = let told = err_from_is_err_and r gives in same_err r fault is (told.1 ∙ ap Err told.2) by
+came : {T : Type 0} (r : Result T ScriptFault) (fault is : ScriptFault) → IsErrAnd r (λ reported. reported ≡ fault) → r ≡ Err is → fault ≡ is
+came r fault is gives by = let reported = err_from_is_err_and r gives in same_err r fault is (reported.1 ∙ ap Err reported.2) by
 
 pub returns-in_err-give_line-clause-memory : goal.returns-in_err-give_line-clause-memory
 returns-in_err-give_line-clause-memory g c = λ is w at.

@@ -14,5 +14,5 @@ invariant_of-result c = (subst (Spells c.in-Ok.frame) c.as_slice.ensures c.in-Ok
 -- the fault is that of the bytes, which spell no frame
 pub returns-in-Err-clause-no_frame : goal.returns-in-Err-clause-no_frame
 returns-in-Err-clause-no_frame c = λ fault is.
-    let told = c.decode_fault.ensures.decode fault is in
-    subst (λ (b : List ℕ). SpellNoFrame b) c.as_slice.ensures (⊎_elim (λ wanting. absurd (told.1 wanting)) (λ alone. alone.1) c.in-Err.ensures.fault)
+    let reported = c.decode_fault.ensures.decode fault is in
+    subst (λ (b : List ℕ). SpellNoFrame b) c.as_slice.ensures (⊎_elim (λ no_memory. absurd (reported.1 no_memory)) (λ alone. alone.1) c.in-Err.ensures.fault)

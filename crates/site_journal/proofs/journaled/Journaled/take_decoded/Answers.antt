@@ -18,10 +18,10 @@ invariant_of-self-in-Err c =
 
 -- the site refuses the frame for the cause that the fault names
 pub returns-in-Err-clause-refused : goal.returns-in-Err-clause-refused
-returns-in-Err-clause-refused c = λ fault told. record {
+returns-in-Err-clause-refused c = λ fault reported. record {
   frame = c.decoded.inside.frame;
   spelled = subst (Spells c.decoded.inside.frame) c.decoded.view_is c.decoded.invariant.0;
-  refused = subst (λ x. IsRefusedTake c.args.self.now.replica c.decoded.inside.frame.delta (λ cause. x ≡ cause)) (c.take_fault.ensures.take fault told)
+  refused = subst (λ x. IsRefusedTake c.args.self.now.replica c.decoded.inside.frame.delta (λ cause. x ≡ cause)) (c.take_fault.ensures.take fault reported)
       (subst (λ r. IsRefusedTake r c.decoded.inside.frame.delta (λ cause. c.in-Err.fault ≡ cause)) (ap (λ j. j.replica) c.self.view_is) c.in-Err.ensures.refusals);
 }
 

@@ -33,28 +33,28 @@ returns-in-Err-clause-err g c = λ start plan w. subst (λ l. IsFrontOf g.O.Outl
     (broken_at_end g.O.Outlet.given _ _ _ _ _ _ _ _ _ c.in_ok-receipt.ensures.deed w (subst (λ l. EachLink (OutletRun g.O.Outlet.given l) c.args.outlets.now c.send_each.new.outlets) c.as_slice.ensures.value c.in_ok-send_each.ensures.ok) c.in-Err.ensures.err)
 
 pub returns-then-is_err-clause-stopped : goal.returns-then-is_err-clause-stopped
-returns-then-is_err-clause-stopped g c = λ told. absurd (cc (told, c.requires.well))
+returns-then-is_err-clause-stopped g c = λ reported. absurd (cc (reported, c.requires.well))
 
 pub returns-in_err-send_each-clause-stopped : goal.returns-in_err-send_each-clause-stopped
-returns-in_err-send_each-clause-stopped g c = let p = err_from_is_err_and c.from_residual.result c.from_residual.ensures.1 in rw (p.1, p.2) (λ told. absurd (cc (told, c.requires.well)))
+returns-in_err-send_each-clause-stopped g c = let p = err_from_is_err_and c.from_residual.result c.from_residual.ensures.1 in rw (p.1, p.2) (λ reported. absurd (cc (reported, c.requires.well)))
 
 pub returns-in_err-receipt-clause-stopped : goal.returns-in_err-receipt-clause-stopped
 returns-in_err-receipt-clause-stopped g c = let p = err_from_is_err_and c.from_residual-in_err-receipt.result c.from_residual-in_err-receipt.ensures.1 in
-    rw (p.1, p.2) (λ told start plan w. refused_at_end g.O.Outlet.given plan _ _ _ _ start _ _ c.reserve.ensures.items w (subst (λ l. EachLink (OutletRun g.O.Outlet.given l) c.args.outlets.now c.send_each.new.outlets) c.as_slice.ensures.value c.in_ok-send_each.ensures.ok))
+    rw (p.1, p.2) (λ reported start plan w. refused_at_end g.O.Outlet.given plan _ _ _ _ start _ _ c.reserve.ensures.items w (subst (λ l. EachLink (OutletRun g.O.Outlet.given l) c.args.outlets.now c.send_each.new.outlets) c.as_slice.ensures.value c.in_ok-send_each.ensures.ok))
 
 pub returns-in-Err-clause-stopped : goal.returns-in-Err-clause-stopped
-returns-in-Err-clause-stopped g c = λ told. absurd (cc (told, c.in_ok-receipt.ensures.well))
+returns-in-Err-clause-stopped g c = λ reported. absurd (cc (reported, c.in_ok-receipt.ensures.well))
 
 pub returns-then-is_err-clause-receipts : goal.returns-then-is_err-clause-receipts
-returns-then-is_err-clause-receipts g c = record { receipt = tt; perhaps = inl c.reserve.ensures.items; refused = λ told. c.reserve.ensures.items }
+returns-then-is_err-clause-receipts g c = record { receipt = tt; perhaps = inl c.reserve.ensures.items; refused = λ reported. c.reserve.ensures.items }
 
 pub returns-in_err-send_each-clause-receipts : goal.returns-in_err-send_each-clause-receipts
 returns-in_err-send_each-clause-receipts g c = let p = err_from_is_err_and c.from_residual.result c.from_residual.ensures.1 in
-    rw (p.1, p.2) (record { receipt = tt; perhaps = inl c.reserve.ensures.items; refused = λ told. c.reserve.ensures.items })
+    rw (p.1, p.2) (record { receipt = tt; perhaps = inl c.reserve.ensures.items; refused = λ reported. c.reserve.ensures.items })
 
 pub returns-in_err-receipt-clause-receipts : goal.returns-in_err-receipt-clause-receipts
 returns-in_err-receipt-clause-receipts g c = let p = err_from_is_err_and c.from_residual-in_err-receipt.result c.from_residual-in_err-receipt.ensures.1 in
-    rw (p.1, p.2) (record { receipt = tt; perhaps = inl c.reserve.ensures.items; refused = λ told. c.reserve.ensures.items })
+    rw (p.1, p.2) (record { receipt = tt; perhaps = inl c.reserve.ensures.items; refused = λ reported. c.reserve.ensures.items })
 
 pub returns-in-Ok-clause-receipts : goal.returns-in-Ok-clause-receipts
 returns-in-Ok-clause-receipts g c =
@@ -67,7 +67,7 @@ returns-in-Err-clause-receipts g c =
     record {
       receipt = tt;
       perhaps = inr (receipt, c.in_ok-receipt.ensures.deed, c.push_reserved.ensures.items ∙ ap (λ l. l ++ receipt ∷ []) c.reserve.ensures.items);
-      refused = λ told. absurd (cc (told, c.in_ok-receipt.ensures.well));
+      refused = λ reported. absurd (cc (reported, c.in_ok-receipt.ensures.well));
     }
 
 pub returns-then-is_err-clause-port : goal.returns-then-is_err-clause-port
@@ -94,7 +94,7 @@ returns-in_err-receipt-clause-port g c = let p = err_from_is_err_and c.from_resi
     rw (p.1, p.2) (record {
       run = tt;
       work = λ start run. work_refused g.P.Port.makes g.P.Port.refuses start _ _ _ _ (run_same g.P.Port.makes start _ _ _ c.reserve.ensures.items run) c.in_err-receipt.ensures.refused;
-      fault = inl c.in_err-receipt.ensures.told;
+      fault = inl c.in_err-receipt.ensures.recorded;
       same = search rules;
       done = search rules;
     })

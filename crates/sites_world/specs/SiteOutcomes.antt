@@ -19,18 +19,18 @@ use Rattle.status_report.specs.declared.asks.Answer.{Answer}
 use Rattle.status_report.specs.declared.asks.Answer.TheVariants.{Refused}
 use Rattle.sites_world.specs.declared.outcome.Outcome.{Outcome}
 use Rattle.sites_world.specs.declared.outcome.Outcome.TheVariants.{Answered, Cut, NoMemory, Took}
-use Rattle.sites_world.specs.Worlds.{Entry, Happening, frame_told, is_done, take_told}
+use Rattle.sites_world.specs.Worlds.{Entry, Happening, frame_result, is_done, take_result}
 use Rattle.sites_world.specs.WorldStates.{Correspond, IsFrameOf}
 
 -- the outcome of an answer: the answer, or `NoMemory` for a command that was refused as out of memory
-abbrev pub answer_told : Answer → Outcome
-answer_told (Refused refusal.Memory) = NoMemory
-answer_told answer = Answered answer
+abbrev pub answer_outcome : Answer → Outcome
+answer_outcome (Refused refusal.Memory) = NoMemory
+answer_outcome answer = Answered answer
 
 -- the outcome of a take that fails: the fault, or `NoMemory` when out of memory
-abbrev pub take_fault_told : TakeFault → Outcome
-take_fault_told take_fault.Memory = NoMemory
-take_fault_told fault = Took (Err fault)
+abbrev pub take_fault_outcome : TakeFault → Outcome
+take_fault_outcome take_fault.Memory = NoMemory
+take_fault_outcome fault = Took (Err fault)
 
 -- outcome `o` of an ask is the answer of `after`, and state `new` stands for what the site knows then; or it is `NoMemory`, and
 -- `new` stands for `s`, what the site knew before
@@ -47,13 +47,13 @@ HasAddedFrame maker old new other = new ≡ old
 -- then; or it is `NoMemory`, `new` stands for `s`, what the site knew, and the pool is `old`
 abbrev pub IsFramedSo : SiteState → SiteKnowledge → List Frame → List Frame → SiteKnowledge × steps.Outcome → Outcome → Type 0
 IsFramedSo new s old pool after o =
-    ((o ≡ Cut (frame_told (length old) after.1)) × StandsFor new after.0 × HasAddedFrame new.site old pool after.1)
+    ((o ≡ Cut (frame_result (length old) after.1)) × StandsFor new after.0 × HasAddedFrame new.site old pool after.1)
     ⊎ ((o ≡ NoMemory) × StandsFor new s × (pool ≡ old))
 
 -- outcome `o` of a take is the one of `after`, the site's step, and state `new` stands for what the site knows then; or it is
 -- `NoMemory`, and `new` stands for `s`, what the site knew before
 abbrev pub IsTakenSo : SiteState → SiteKnowledge → SiteKnowledge × steps.Outcome → Outcome → Type 0
-IsTakenSo new s after o = ((o ≡ Took (take_told after.1)) × StandsFor new after.0) ⊎ ((o ≡ NoMemory) × StandsFor new s)
+IsTakenSo new s after o = ((o ≡ Took (take_result after.1)) × StandsFor new after.0) ⊎ ((o ≡ NoMemory) × StandsFor new s)
 
 -- a site in this state may join each delta that stands for knowledge `k`: it has only the site's queues, has nothing of the site
 -- that the site hasn't made, and agrees with the site's state

@@ -27,13 +27,13 @@ use Rattle.sites_world.specs.declared.event.Event.TheVariants as event
 use Rattle.sites_world.specs.declared.outcome.Outcome.{Outcome}
 use Rattle.sites_world.specs.declared.outcome.Outcome.TheVariants.{NoMemory, NoSite}
 use Rattle.sites_world.specs.Conditions.{ComesAt, ComesOfAsk, ComesOfDelta, GrowsBy, EventsLead, EventLeads, LeadsWhere}
-use Rattle.sites_world.specs.Telling.{IsAsk, MayBeTaken, answer_told, take_fault_told}
+use Rattle.sites_world.specs.SiteOutcomes.{IsAsk, MayBeTaken, answer_outcome, take_fault_outcome}
 use Rattle.sites_world.specs.Worlds.{Entry, site_of}
 use Rattle.sites_world.specs.WorldStates.{IsSiteOf, IsWorld, WorldState}
 use Rattle.sites_world.proofs.Happenings.{may_take_all}
 use Rattle.sites_world.proofs.Lists.{correspond_get, set_again, some_within}
 use Rattle.sites_world.proofs.SteppedHistories.{reached_history}
-use Rattle.sites_world.proofs.ToldAnswers.{told_cases}
+use Rattle.sites_world.proofs.OutcomeAnswers.{reported_cases}
 use Rattle.sites_world.proofs.Unchanged.{equal_unchanged}
 use Rattle.replica.proofs.PlannedCommands.{itself}
 use Rattle.std.proofs.lemmas.Option.{slice_get_past}
@@ -49,36 +49,36 @@ refused_follows old new (Makes o) r follows = absurd (no_ok follows.0)
 refused_follows old new (refused_meaning x) r follows = follows.1
 
 -- a command that is refused as out of memory has a meaning that takes memory
-wanting_follows : (old new : SiteState) (m : Meaning) (r : Refusal) → Refused r ≡ Refused refusal.Memory → Follows old m new (Err r) → MayWantMemory m
-wanting_follows old new (Makes o) r is follows = tt
-wanting_follows old new (refused_meaning x) r is follows = subst (λ y. MayWantMemory (refused_meaning y)) same tt
+no_memory_follows : (old new : SiteState) (m : Meaning) (r : Refusal) → Refused r ≡ Refused refusal.Memory → Follows old m new (Err r) → MayWantMemory m
+no_memory_follows old new (Makes o) r is follows = tt
+no_memory_follows old new (refused_meaning x) r is follows = subst (λ y. MayWantMemory (refused_meaning y)) same tt
   where
     same : refusal.Memory ≡ x
-    same = let told = follows.0 in cc
+    same = let reported = follows.0 in cc
 
 -- the outcome of an answer meets the conditions of its ask
 pub asked_comes : (old new : SiteState) (asked : Ask) (answer : Answer) → AnswersCommand old asked new answer → AnswersStatus old asked answer → KeepsAtStatus old asked new
-    → ComesOfAsk old asked (answer_told answer) new
-asked_comes old new (Status request) answer command (inl report) kept = subst (λ a. ComesOfAsk old (Status request) (answer_told a) new) (sym report) (refl, kept)
-asked_comes old new (Status request) answer command (inr refused) kept = subst (λ a. ComesOfAsk old (Status request) (answer_told a) new) (sym refused) (equal_unchanged old new kept)
-asked_comes old new (asked_command command) answer (result, is, done) status kept = subst (λ a. ComesOfAsk old (asked_command command) (answer_told a) new) (sym is) (by result done)
+    → ComesOfAsk old asked (answer_outcome answer) new
+asked_comes old new (Status request) answer command (inl report) kept = subst (λ a. ComesOfAsk old (Status request) (answer_outcome a) new) (sym report) (refl, kept)
+asked_comes old new (Status request) answer command (inr refused) kept = subst (λ a. ComesOfAsk old (Status request) (answer_outcome a) new) (sym refused) (equal_unchanged old new kept)
+asked_comes old new (asked_command command) answer (result, is, done) status kept = subst (λ a. ComesOfAsk old (asked_command command) (answer_outcome a) new) (sym is) (by result done)
   where
-    by : (result : Result (Unit {0}) Refusal) → IsDone old (meaning_at old (change_of command)) new result → ComesOfAsk old (asked_command command) (answer_told (answer_of result)) new
+    by : (result : Result (Unit {0}) Refusal) → IsDone old (meaning_at old (change_of command)) new result → ComesOfAsk old (asked_command command) (answer_outcome (answer_of result)) new
     by (Ok u) (inl follows) = (Ok u, refl, follows)
-    by (Err r) (inl follows) = elim (told_cases (Refused r)) [
-      | inl told ↦ subst (λ o. ComesOfAsk old (asked_command command) o new) (sym told) (Err r, refl, follows)
+    by (Err r) (inl follows) = elim (reported_cases (Refused r)) [
+      | inl reported ↦ subst (λ o. ComesOfAsk old (asked_command command) o new) (sym reported) (Err r, refl, follows)
       | inr none ↦ subst (λ o. ComesOfAsk old (asked_command command) o new) (sym none.0) (
         refused_follows old new (meaning_at old (change_of command)) r follows,
-        wanting_follows old new (meaning_at old (change_of command)) r none.1 follows,
+        no_memory_follows old new (meaning_at old (change_of command)) r none.1 follows,
       )
     ]
-    by result (inr other) = subst (λ r. ComesOfAsk old (asked_command command) (answer_told (answer_of r)) new) (sym other.1) (other.0, other.2)
+    by result (inr other) = subst (λ r. ComesOfAsk old (asked_command command) (answer_outcome (answer_of r)) new) (sym other.1) (other.0, other.2)
 
 -- ---- takes
 
 -- the outcome of a fault meets the conditions of the take
 pub fault_comes : (old new : SiteState) (k : Knowledge) (d : DeltaState) (fault : TakeFault) → MayBeTaken old k → IsDeltaOf d k → IsUnchanged old new
-    → IsRefusedTake old d (λ f. fault ≡ f) → ComesOfDelta old d (take_fault_told fault) new
+    → IsRefusedTake old d (λ f. fault ≡ f) → ComesOfDelta old d (take_fault_outcome fault) new
 fault_comes old new k d take_fault.NoSuchQueue may is same refused = absurd (may.queues d is (refused.no_such_queue.0 refl))
 fault_comes old new k d take_fault.NotMine may is same refused = absurd (may.own d is (refused.not_mine.0 refl).1)
 fault_comes old new k d take_fault.Conflict may is same refused = absurd (may.agrees d is (refused.conflict.0 refl).1)
@@ -118,26 +118,26 @@ pub leads_nowhere : (from : WorldState) (e : Event) → length from.sites ≤ si
 leads_nowhere from e past = subst (LeadsWhere from e NoSite from) (sym (slice_get_past from.sites (site_of e) past)) (refl, refl)
 
 -- `NoMemory` meets the conditions of a status ask where nothing is changed
-wanting_comes : (old : SiteState) (site : ℕ) (asked : Ask) → ((command : Command) → event.Ask site asked ≡ event.Ask site (asked_command command) → ⊥) → ComesOfAsk old asked NoMemory old
-wanting_comes old site (asked_command command) status = absurd (status command refl)
-wanting_comes old site (Status request) status = itself old
+no_memory_comes : (old : SiteState) (site : ℕ) (asked : Ask) → ((command : Command) → event.Ask site asked ≡ event.Ask site (asked_command command) → ⊥) → ComesOfAsk old asked NoMemory old
+no_memory_comes old site (asked_command command) status = absurd (status command refl)
+no_memory_comes old site (Status request) status = itself old
 
 -- `NoMemory` meets the conditions of an event whose copy ran out of memory, which no command's does
-pub leads_wanting : (from : WorldState) (e : Event) → IsAsk e → ((site : ℕ) (command : Command) → e ≡ event.Ask site (asked_command command) → ⊥) → site_of e < length from.sites
+pub leads_no_memory : (from : WorldState) (e : Event) → IsAsk e → ((site : ℕ) (command : Command) → e ≡ event.Ask site (asked_command command) → ⊥) → site_of e < length from.sites
     → EventLeads from e NoMemory from
-leads_wanting from (event.Ask site asked) is status within = by (slice_get from.sites site) refl
+leads_no_memory from (event.Ask site asked) is status within = by (slice_get from.sites site) refl
   where
     by : (found : Option SiteState) → slice_get from.sites site ≡ found → LeadsWhere from (event.Ask site asked) NoMemory from found
     by None none = absurd (some_within from.sites site within none)
     by (Some old) here = record {
       new = old;
-      comes = record { added = []; comes = (wanting_comes old site asked (status site), refl); is = sym (append-nil from.pool) };
+      comes = record { added = []; comes = (no_memory_comes old site asked (status site), refl); is = sym (append-nil from.pool) };
       sites = sym (set_again from.sites site old here);
       names = refl;
     }
-leads_wanting from (event.Cut site) is status within = absurd is
-leads_wanting from (event.Whole site) is status within = absurd is
-leads_wanting from (event.Take site place) is status within = absurd is
+leads_no_memory from (event.Cut site) is status within = absurd is
+leads_no_memory from (event.Whole site) is status within = absurd is
+leads_no_memory from (event.Take site place) is status within = absurd is
 
 -- ---- events in turn
 

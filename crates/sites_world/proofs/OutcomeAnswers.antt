@@ -27,8 +27,8 @@ use Rattle.status_report.specs.declared.asks.Ask.TheVariants.{Command as asked_c
 use Rattle.status_report.specs.Answers.{answer_of}
 use Rattle.status_report.specs.Knowing.{IsAnswered, answer_in}
 use Rattle.sites_world.specs.declared.outcome.Outcome.TheVariants.{Answered, Cut, NoMemory, Took}
-use Rattle.sites_world.specs.Telling.{HasAddedFrame, IsAnsweredSo, IsFramedSo, IsTakenSo, MayBeTaken, answer_told, take_fault_told}
-use Rattle.sites_world.specs.Worlds.{take_told, frame_told}
+use Rattle.sites_world.specs.SiteOutcomes.{HasAddedFrame, IsAnsweredSo, IsFramedSo, IsTakenSo, MayBeTaken, answer_outcome, take_fault_outcome}
+use Rattle.sites_world.specs.Worlds.{take_result, frame_result}
 
 -- ---- answers
 
@@ -45,49 +45,49 @@ refused_stays site names s (asked_command command) r e = by (meaning site names 
     by (refused_meaning x) e = refl
 
 -- the outcome of an answer is that answer, or `NoMemory`
-pub told_cases : (answer : Answer) → (answer_told answer ≡ Answered answer) ⊎ ((answer_told answer ≡ NoMemory) × (answer ≡ Refused refusal.Memory))
-told_cases Done = inl refl
-told_cases (Report bytes) = inl refl
-told_cases (Refused refusal.NoSuchQueue) = inl refl
-told_cases (Refused refusal.AlreadyThere) = inl refl
-told_cases (Refused refusal.NotThere) = inl refl
-told_cases (Refused refusal.MembersFull) = inl refl
-told_cases (Refused refusal.Exhausted) = inl refl
-told_cases (Refused refusal.TotalFull) = inl refl
-told_cases (Refused refusal.Memory) = inr (refl, refl)
+pub reported_cases : (answer : Answer) → (answer_outcome answer ≡ Answered answer) ⊎ ((answer_outcome answer ≡ NoMemory) × (answer ≡ Refused refusal.Memory))
+reported_cases Done = inl refl
+reported_cases (Report bytes) = inl refl
+reported_cases (Refused refusal.NoSuchQueue) = inl refl
+reported_cases (Refused refusal.AlreadyThere) = inl refl
+reported_cases (Refused refusal.NotThere) = inl refl
+reported_cases (Refused refusal.MembersFull) = inl refl
+reported_cases (Refused refusal.Exhausted) = inl refl
+reported_cases (Refused refusal.TotalFull) = inl refl
+reported_cases (Refused refusal.Memory) = inr (refl, refl)
 
-pub told_answer : (old new : SiteState) (s : SiteKnowledge) (asked : Ask) (answer : Answer) → StandsFor old s → IsAnswered old new answer (answer_in old.site old.names s asked)
-    → IsAnsweredSo new s (answer_in old.site old.names s asked) (answer_told answer)
-told_answer old new s asked answer stands (inl (after, e)) = elim (told_cases answer) [
-  | inl told ↦ inl (told ∙ ap Answered e, after)
-  | inr told ↦ inr (told.0, subst (StandsFor new) (refused_stays old.site old.names s asked refusal.Memory (sym e ∙ told.1)) after)
+pub reported_answer : (old new : SiteState) (s : SiteKnowledge) (asked : Ask) (answer : Answer) → StandsFor old s → IsAnswered old new answer (answer_in old.site old.names s asked)
+    → IsAnsweredSo new s (answer_in old.site old.names s asked) (answer_outcome answer)
+reported_answer old new s asked answer stands (inl (after, e)) = elim (reported_cases answer) [
+  | inl reported ↦ inl (reported ∙ ap Answered e, after)
+  | inr reported ↦ inr (reported.0, subst (StandsFor new) (refused_stays old.site old.names s asked refusal.Memory (sym e ∙ reported.1)) after)
 ]
-told_answer old new s asked answer stands (inr (same, refused)) = inr (ap answer_told refused, unchanged_stands old new s stands same)
+reported_answer old new s asked answer stands (inr (same, refused)) = inr (ap answer_outcome refused, unchanged_stands old new s stands same)
 
 -- ---- frames that were made
 
-pub told_frame : (new : SiteState) (s : SiteKnowledge) (old pool : List Frame) (after : SiteKnowledge × steps.Outcome) (frame : Frame) → StandsFor new after.0 → IsFramed frame after.1
+pub reported_frame : (new : SiteState) (s : SiteKnowledge) (old pool : List Frame) (after : SiteKnowledge × steps.Outcome) (frame : Frame) → StandsFor new after.0 → IsFramed frame after.1
     → frame.maker ≡ new.site → IsInRanges frame → pool ≡ old ++ frame ∷ [] → IsFramedSo new s old pool after (Cut (Ok (Some (length old))))
-told_frame new s old pool after frame stands framed maker ranges grown = inl (
-  ap (λ x. Cut (frame_told (length old) x)) (sym framed.outcome_is),
+reported_frame new s old pool after frame stands framed maker ranges grown = inl (
+  ap (λ x. Cut (frame_result (length old) x)) (sym framed.outcome_is),
   stands,
   subst (HasAddedFrame new.site old pool) (sym framed.outcome_is) (frame, grown, record { maker = maker; number = refl; delta = framed.stands; ranges = ranges }),
 )
 
 -- ---- frames that were taken
 
-pub told_fault : (old new : SiteState) (s : SiteKnowledge) (k : Knowledge) (d : DeltaState) (fault : TakeFault) → MayBeTaken old k → IsDeltaOf d k → StandsFor old s → IsUnchanged old new
+pub reported_fault : (old new : SiteState) (s : SiteKnowledge) (k : Knowledge) (d : DeltaState) (fault : TakeFault) → MayBeTaken old k → IsDeltaOf d k → StandsFor old s → IsUnchanged old new
     → (fault ≡ take_fault.NoSuchQueue → SpeaksOfStrangeQueue (length old.names) d) → (fault ≡ take_fault.NotMine → IsNotMine old d) → (fault ≡ take_fault.Conflict → DeltasInConflict old.state d)
-    → IsMeantFault fault (step old.site old.names s (Take k)).1 → IsTakenSo new s (step old.site old.names s (Take k)) (take_fault_told fault)
-told_fault old new s k d take_fault.NoSuchQueue may is stands same strange mine conflict meant = absurd (may.queues d is (strange refl))
-told_fault old new s k d take_fault.NotMine may is stands same strange mine conflict meant = absurd (may.own d is (mine refl))
-told_fault old new s k d take_fault.Conflict may is stands same strange mine conflict meant = absurd (may.agrees d is (conflict refl))
-told_fault old new s k d take_fault.CellsFull may is stands same strange mine conflict meant = inl (
-  ap (λ x. Took (take_told x)) (sym meant),
+    → IsMeantFault fault (step old.site old.names s (Take k)).1 → IsTakenSo new s (step old.site old.names s (Take k)) (take_fault_outcome fault)
+reported_fault old new s k d take_fault.NoSuchQueue may is stands same strange mine conflict meant = absurd (may.queues d is (strange refl))
+reported_fault old new s k d take_fault.NotMine may is stands same strange mine conflict meant = absurd (may.own d is (mine refl))
+reported_fault old new s k d take_fault.Conflict may is stands same strange mine conflict meant = absurd (may.agrees d is (conflict refl))
+reported_fault old new s k d take_fault.CellsFull may is stands same strange mine conflict meant = inl (
+  ap (λ x. Took (take_result x)) (sym meant),
   subst (StandsFor new) (sym ((refusals_change_nothing old.site old.names s (Take k)).cells_full meant)) (unchanged_stands old new s stands same),
 )
-told_fault old new s k d take_fault.RunsFull may is stands same strange mine conflict meant = inl (
-  ap (λ x. Took (take_told x)) (sym meant),
+reported_fault old new s k d take_fault.RunsFull may is stands same strange mine conflict meant = inl (
+  ap (λ x. Took (take_result x)) (sym meant),
   subst (StandsFor new) (sym ((refusals_change_nothing old.site old.names s (Take k)).runs_full meant)) (unchanged_stands old new s stands same),
 )
-told_fault old new s k d take_fault.Memory may is stands same strange mine conflict meant = inr (refl, unchanged_stands old new s stands same)
+reported_fault old new s k d take_fault.Memory may is stands same strange mine conflict meant = inr (refl, unchanged_stands old new s stands same)
