@@ -4,14 +4,14 @@ use Rattle.sqlite.specs.State.{State}
 use Rattle.replica.specs.Site.{IsSameSite}
 use Rattle.replica.proofs.SameSites.{site_itself, site_through}
 use Rattle.stored_steps.specs.declared.base.StoredBase.{StoredBase}
-use Rattle.stored_steps.specs.Bases.{IsRowOfBase, IsSameBase}
+use Rattle.stored_steps.specs.Bases.{IsOfBase, IsRowOfBase, IsSameBase}
 use Rattle.stored_steps.specs.StartRows.{start_row}
 use Rattle.stored_steps.specs.Stored.{Stored}
 use Rattle.stored_steps.proofs.BaseLaws.{one_base, read_same}
 use Rattle.stored_steps.proofs.Replaying.{one_site}
 use Rattle.site_store.specs.Steps.{Holds}
 use Rattle.site_store.proofs.RowLemmas.{lists_once}
-use Rattle.step_database.specs.Standing.{IsOfBase, StandForSteps, StoreOrigin}
+use Rattle.step_database.specs.Standing.{StandForSteps, StoreOrigin}
 use Rattle.step_database.specs.Databases.{Stores}
 
 -- a row is of one base, be it as it was written or as it is read

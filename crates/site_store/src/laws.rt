@@ -11,7 +11,7 @@ ghost use Rattle.stored_steps.specs.Stored.{Stored};
 ghost use Rattle.replica.specs.Site.{IsSameSite, SiteState};
 ghost use Rattle.stored_steps.specs.declared.base.StoredBase.{StoredBase};
 ghost use Rattle.stored_steps.specs.declared.restored_site.RestoredSite.{RestoredSite};
-ghost use Rattle.stored_steps.specs.Bases.{IsRowOfBase};
+ghost use Rattle.stored_steps.specs.Bases.{IsOfBase};
 ghost use Rattle.stored_steps.specs.Restoring.{IsRestoredSite};
 ghost use Rattle.stored_steps.specs.RowsLead.{RowsLead};
 ghost use Rattle.site_store.specs.Steps.{Lists};
@@ -30,14 +30,15 @@ pub fn the_next_run_finds_the_steps<D: Disk, E: Disk>()
         ⊎ Lists ((file_state opened).committed.trees 0) at others ∥₁ }
 {}
 
-/// Where a crash leaves no database but those of a base with rows that lead to a site, or those of another base with other rows that lead to
-/// another site, the site that is restored of what an open of any files that it may leave finds says the same as the one or the other. The
-/// other rows are, for example, the same and those of the steps under way; or a new base of the same site, and none.
+/// Where a crash leaves no database but those of a base, written or read, with rows that lead to a site, or those of another base with
+/// other rows that lead to another site, the site that is restored of what an open of any files that it may leave finds says the same as
+/// the one or the other. The other rows are, for example, the same and those of the steps under way; or a new base of the same site, and
+/// none.
 pub fn the_next_run_restores_the_site<D: Disk, E: Disk>()
     ensures { (it : FileStore D D.Disk) (first at : ℕ) (base other : StoredBase)
         (row other_row : Stored) (rows others : List Stored) (site later : SiteState)
-        → IsRowOfBase base row → RowsLead base.replica rows site
-        → IsRowOfBase other other_row → RowsLead other.replica others later
+        → IsOfBase base row → RowsLead base.replica rows site
+        → IsOfBase other other_row → RowsLead other.replica others later
         → IsTrue (view it).is_numbered → AreDatabases (recovers it)
         → ((db : Trees) → recovers it db
         → Lists (db 0) first (row ∷ rows) ⊎ Lists (db 0) at (other_row ∷ others))

@@ -3,24 +3,20 @@ use Rattle.std.proofs.Common.{◌≡◌, ◌≢◌, ◌+◌, ◌-◌, ◌^◌, �
 use Rattle.std.specs.Prelude.{count_by}
 use Rattle.sqlite.specs.Order.{Row}
 use Rattle.site_journal.specs.declared.step.Step.{Step}
+use Rattle.site_journal.proofs.Leading.{lead_same}
 use Rattle.stored_steps.specs.declared.base.StoredBase.{StoredBase}
 use Rattle.stored_steps.specs.declared.restored_site.RestoredSite.{RestoredSite}
-use Rattle.stored_steps.specs.Bases.{IsReadBase, IsSameBase}
+use Rattle.stored_steps.specs.Bases.{IsReadBase}
 use Rattle.stored_steps.specs.Restoring.{IsRestoredSite}
 use Rattle.stored_steps.specs.RowsLead.{RowsLead}
 use Rattle.stored_steps.specs.StartRows.{is_start}
 use Rattle.stored_steps.specs.Stored.{Stored}
-use Rattle.stored_steps.proofs.BaseLaws.{read_once, read_same}
+use Rattle.stored_steps.proofs.BaseLaws.{same_base}
 use Rattle.stored_steps.proofs.Replaying.{one_site}
 use Rattle.site_store.specs.Steps.{Lists}
 use Rattle.site_store.proofs.RowLemmas.{lists_once}
-use Rattle.step_database.specs.Standing.{IsFoundSite, IsOfBase, StandForSteps, StoreOrigin}
+use Rattle.step_database.specs.Standing.{IsFoundSite, StandForSteps, StoreOrigin}
 use Rattle.step_database.specs.Databases.{BeginsWith}
-
--- what is read of the row of a base says the same
-same_base : (base read : StoredBase) (row : Stored) → IsOfBase base row → IsReadBase row read → IsSameBase base read
-same_base base read row (inl written) is = read_same base read row written is
-same_base base read row (inr was) is = read_once base read row was is
 
 -- the site that is restored of rows that stand for steps has done them
 restored_stands : (origin : StoreOrigin) (rows : List Stored) (steps more : List Step) (found : RestoredSite) → StandForSteps origin rows (steps ++ more) → IsRestoredSite rows found → IsFoundSite origin steps found
@@ -33,7 +29,10 @@ restored_stands origin rows steps more found s is =
     let counted : min (is.base.starts + count_by is_start is.rest) (2 ^ 64 - 1) ≡ min (s.base.starts + count_by is_start s.rest) (2 ^ 64 - 1) =
     ap₂ (λ (n : ℕ) (l : List Stored). min (n + count_by is_start l) (2 ^ 64 - 1)) same.starts rest in record {
       more = more;
-      site = λ site all. one_site s.base.replica is.base.replica site found.journal.replica s.rest same.site (s.lead site all) led;
+      lead =
+          let last = s.legal.state in
+          lead_same origin.begun last found.journal.replica (steps ++ more) s.legal.lead
+          (one_site s.base.replica is.base.replica last found.journal.replica s.rest same.site (s.lead last s.legal.lead) led);
       name = is.name ∙ (same.name ∙ s.name);
       starts = is.starts ∙ (counted ∙ sym s.starts);
     }

@@ -13,6 +13,7 @@ use Rattle.site_store.specs.declared.resuming.ResumedSite.{ResumedSite}
 use Rattle.site_store.specs.Kept.{HoldsAll, SparesKept}
 use Rattle.site_store.specs.Resumed.{IsResumed}
 use Rattle.site_store.specs.Steps.{Holds, LeavesOnly, Lists, kept_schema, step_schema}
+use Rattle.stored_desk.specs.Recorded.{IsLegalHistory}
 use Rattle.step_database.specs.Standing.{AreRowsOf, StandForSteps, StoreOrigin}
 use Rattle.step_database.specs.Databases.{BeginsWith, Keeps, Stores}
 use Rattle.step_database.proofs.Stands.{stand_anew, stand_begun, stand_on}
@@ -31,10 +32,10 @@ pub keeps_put : (old new : State) (origin : StoreOrigin) (next at : ℕ) (steps 
 keeps_put old new origin next at steps rows it stand crash db may =
     ⊎_elim (λ was. stores_keeps old origin next steps it db was) (λ lists. begins (db 0) origin at rows steps lists stand) (crash db may)
 
-module _ (old new : State) (origin : StoreOrigin) (next : ℕ) (steps more : List Step) (rows : List Stored) (it : Stores old origin next steps) (are : AreRowsOf rows more) where
+module _ (old new : State) (origin : StoreOrigin) (next : ℕ) (steps more : List Step) (rows : List Stored) (it : Stores old origin next steps) (are : AreRowsOf rows more) (legal : IsLegalHistory origin.begun (steps ++ more)) where
   -- the rows with those of more steps stand for all of these
   pub stand_more : StandForSteps origin (it.rows ++ rows) (steps ++ more)
-  stand_more = subst (λ (l : List Stored). StandForSteps origin (it.rows ++ l) (steps ++ more)) (sym are.are) (stand_on origin it.rows steps more it.stand are.within)
+  stand_more = subst (λ (l : List Stored). StandForSteps origin (it.rows ++ l) (steps ++ more)) (sym are.are) (stand_on origin it.rows steps more it.stand are.within legal)
 
   -- a database to which they were added stores all of these
   pub stores_more : Holds new it.first (it.rows ++ rows) × LeavesOnly new it.first (it.rows ++ rows) → Stores new origin (next + length rows) (steps ++ more)
@@ -53,14 +54,14 @@ module _ (old new : State) (origin : StoreOrigin) (next : ℕ) (steps more : Lis
       ⊎_elim (λ was. stores_keeps old origin next steps it db was) (λ lists. record { first = it.first; rows = it.rows ++ rows; more = more; lists = lists; stand = stand_more }) (crash db may)
 
 -- steps without a row need no more rows
-pub stores_rowless : (s : State) (origin : StoreOrigin) (next : ℕ) (steps more : List Step) → Stores s origin next steps → AreRowsOf [] more → Stores s origin next (steps ++ more)
-stores_rowless s origin next steps more it are = record {
+pub stores_rowless : (s : State) (origin : StoreOrigin) (next : ℕ) (steps more : List Step) → Stores s origin next steps → AreRowsOf [] more → IsLegalHistory origin.begun (steps ++ more) → Stores s origin next (steps ++ more)
+stores_rowless s origin next steps more it are legal = record {
   first = it.first;
   rows = it.rows;
   next_is = it.next_is;
   holds = it.holds;
   leaves = it.leaves;
-  stand = subst (λ (l : List Stored). StandForSteps origin l (steps ++ more)) (append-nil it.rows) (stand_more s s origin next steps more [] it are);
+  stand = subst (λ (l : List Stored). StandForSteps origin l (steps ++ more)) (append-nil it.rows) (stand_more s s origin next steps more [] it are legal);
 }
 
 -- what a connection holds of a site that goes on stands for no step of it

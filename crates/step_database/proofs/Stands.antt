@@ -14,6 +14,7 @@ use Rattle.stored_steps.specs.StartRows.{is_start, start_row}
 use Rattle.stored_steps.specs.StepRows.{IsWithinLimits, rows_of}
 use Rattle.stored_steps.specs.Stored.{Stored}
 use Rattle.stored_steps.proofs.Replaying.{lead_on, one_site, steps_lead}
+use Rattle.stored_desk.specs.Recorded.{IsLegalHistory}
 use Rattle.step_database.specs.Standing.{StandForSteps, StoreOrigin}
 use Rattle.step_database.proofs.StepRows.{count_both, no_starts}
 
@@ -25,8 +26,9 @@ lead_parts from to (step ∷ steps) more (next, one, rest) =
     (parts.0, (next, one, parts.1), parts.2)
 
 -- the rows of more steps stand behind those of the steps before
-pub stand_on : (origin : StoreOrigin) (rows : List Stored) (steps more : List Step) → StandForSteps origin rows steps → All IsWithinLimits more → StandForSteps origin (rows ++ rows_of more) (steps ++ more)
-stand_on origin rows steps more s good = record {
+pub stand_on : (origin : StoreOrigin) (rows : List Stored) (steps more : List Step) → StandForSteps origin rows steps → All IsWithinLimits more → IsLegalHistory origin.begun (steps ++ more)
+    → StandForSteps origin (rows ++ rows_of more) (steps ++ more)
+stand_on origin rows steps more s good legal = record {
   base = s.base;
   first = s.first;
   rest = s.rest ++ rows_of more;
@@ -35,6 +37,7 @@ stand_on origin rows steps more s good = record {
   name = s.name;
   starts = s.starts ∙ ap (λ (n : ℕ). min (s.base.starts + n) (2 ^ 64 - 1)) count;
   within = All-append IsWithinLimits steps more s.within good;
+  legal = legal;
   lead = λ site all.
       let parts = lead_parts origin.begun site steps more all in
       lead_on s.base.replica parts.0 site s.rest (rows_of more) (s.lead parts.0 parts.1) (steps_lead parts.0 site more parts.2 good);
@@ -55,6 +58,7 @@ stand_anew origin rows steps site row s all of = record {
   name = refl;
   starts = counted origin.starts of.good.limits.starts;
   within = s.within;
+  legal = s.legal;
   lead = λ other led. one_site origin.begun origin.begun site other (rows_of steps) (site_itself origin.begun) (steps_lead origin.begun site steps all s.within) (steps_lead origin.begun other steps led s.within);
 }
   where
@@ -73,6 +77,7 @@ stand_begun rows it starts is counted = record {
   name = sym is.name;
   starts = more it.starts is.base.starts (count_by is_start is.rest) (count_by is_start (is.rest ++ start_row ∷ [])) starts counted is.starts (count_both is.rest (start_row ∷ []));
   within = All-nil IsWithinLimits;
+  legal = record { state = it.journal.replica; lead = site_itself it.journal.replica };
   lead = λ site same. lead_on is.base.replica it.journal.replica site is.rest (start_row ∷ []) is.replayed.led (site, inr (refl, same), site_itself site);
 }
   where

@@ -1,17 +1,18 @@
 -- Rows that stand for the steps of a site (this project's own).
-use Rattle.std.specs.Prelude.{ℕ, ◌≡◌, ◌⊎◌, ◌+◌, ◌-◌, ◌^◌, ◌++◌, List, ◌∷◌, count_by, min, refl}
+use Rattle.std.specs.Prelude.{ℕ, ◌≡◌, ◌+◌, ◌-◌, ◌^◌, ◌++◌, List, ◌∷◌, count_by, min, refl}
 use Rattle.std.specs.Coded.{Coded, code_by, coded×, coded_ℕ, coded_list}
 use Rattle.std.specs.List.{All}
-use Rattle.replica.specs.Site.{IsSameSite, SiteState, site_code}
+use Rattle.replica.specs.Site.{SiteState, site_code}
 use Rattle.site_journal.specs.Legal.{LeadAll}
 use Rattle.site_journal.specs.declared.step.Step.{Step}
 use Rattle.stored_steps.specs.declared.base.StoredBase.{StoredBase}
 use Rattle.stored_steps.specs.declared.restored_site.RestoredSite.{RestoredSite}
-use Rattle.stored_steps.specs.Bases.{IsReadBase, IsRowOfBase}
+use Rattle.stored_steps.specs.Bases.{IsOfBase}
 use Rattle.stored_steps.specs.RowsLead.{RowsLead}
 use Rattle.stored_steps.specs.StartRows.{is_start}
 use Rattle.stored_steps.specs.StepRows.{IsWithinLimits, rows_of}
 use Rattle.stored_steps.specs.Stored.{Stored}
+use Rattle.stored_desk.specs.Recorded.{IsLegalHistory}
 
 -- Of which site a store is: what the site said before its steps, the bytes that name the store, and how often the site was started over it.
 pub record StoreOrigin : Type 0 where
@@ -29,12 +30,8 @@ pub record AreRowsOf (rows : List Stored) (steps : List Step) : Type 0 where
   pub are : rows ≡ rows_of steps
   pub within : All IsWithinLimits steps
 
--- a row is that of a base: as it was written, or as it was read
-abbrev pub IsOfBase : StoredBase → Stored → Type 0
-IsOfBase base row = IsRowOfBase base row ⊎ IsReadBase row base
-
--- Rows stand for the steps of a site: wherever the steps lead the site, the rows lead the base that stands first. The base has the store's
--- name, and its starts and those of the further rows are the store's.
+-- Rows stand for the steps of a site, which it can do: wherever they lead it, the rows lead the base that stands first. The base has the
+-- store's name, and its starts and those of the further rows are the store's.
 pub record StandForSteps (origin : StoreOrigin) (rows : List Stored) (steps : List Step) : Type 0 where
   pub base : StoredBase
   pub first : Stored
@@ -44,11 +41,12 @@ pub record StandForSteps (origin : StoreOrigin) (rows : List Stored) (steps : Li
   pub name : base.name ≡ origin.name
   pub starts : origin.starts ≡ min (base.starts + count_by is_start rest) (2 ^ 64 - 1)
   pub within : All IsWithinLimits steps
+  pub legal : IsLegalHistory origin.begun steps
   pub lead : (site : SiteState) → LeadAll origin.begun steps site → RowsLead base.replica rest site
 
--- A site that was restored has done the steps, and maybe more: it says what a site says that has done these. Name and starts are the store's.
+-- A site that was restored has done the steps, and maybe more: these lead the store's first site to it. Name and starts are the store's.
 pub record IsFoundSite (origin : StoreOrigin) (steps : List Step) (found : RestoredSite) : Type 0 where
   pub more : List Step
-  pub site : (site : SiteState) → LeadAll origin.begun (steps ++ more) site → IsSameSite site found.journal.replica
+  pub lead : LeadAll origin.begun (steps ++ more) found.journal.replica
   pub name : found.name ≡ origin.name
   pub starts : found.starts ≡ origin.starts

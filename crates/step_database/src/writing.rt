@@ -7,6 +7,7 @@ ghost use Rattle.site_journal.specs.declared.step.Step.{Step};
 ghost use Rattle.stored_steps.specs.StepRows.{IsWithinLimits, rows_of};
 ghost use Rattle.stored_steps.specs.Stored.{Stored};
 ghost use Rattle.site_store.specs.Kept.{AddsToAll, CommitsAll, CommitsToAll, HoldsAll, LeavesAll};
+ghost use Rattle.stored_desk.specs.Recorded.{IsLegalHistory};
 ghost use Rattle.step_database.specs.CommitFaults.{commit_fault};
 ghost use Rattle.step_database.specs.Standing.{AreRowsOf, StandForSteps, StoreOrigin};
 ghost use Rattle.step_database.specs.Databases.{Keeps, Stores};
@@ -53,15 +54,17 @@ pub(crate) fn grown(growth: Growth, rows: &[StoredRow]) -> Growth {
     }
 }
 
-// Why a commit has failed, by the database's error: `Full`; `Device`, if the disk fails, or the database is damaged or closed; else `Other`.
+// Why a commit has failed, by the database's error: `Full`; `Device`, if the disk fails, or the database is closed; `Damaged`; `Memory`;
+// else `Other`.
 fn commit_fault(error: Error) -> CommitFault
     ensures { result ≡ commit_fault error }
 {
     match error {
         Error::SqliteFailure(ErrorCode::DiskFull) => CommitFault::Full,
         Error::SqliteFailure(ErrorCode::SystemIoFailure)
-        | Error::SqliteFailure(ErrorCode::DatabaseCorrupt)
         | Error::SqliteFailure(ErrorCode::Closed) => CommitFault::Device,
+        Error::SqliteFailure(ErrorCode::DatabaseCorrupt) => CommitFault::Damaged,
+        Error::SqliteFailure(ErrorCode::OutOfMemory) => CommitFault::Memory,
         _ => CommitFault::Other,
     }
 }
@@ -77,10 +80,12 @@ pub(crate) fn append_rows<S: Alter>(
     ensures added { HasCleanDisk (state S.Store conn.new)
         → (origin : StoreOrigin) (steps more : List Step)
         → Stores (state S.Store conn.old) origin at steps → AreRowsOf rows.now more
+        → IsLegalHistory origin.begun (steps ++ more)
         → IfOk result (λ next. Stores (state S.Store conn.new) origin next (steps ++ more)) }
     ensures kept { HasCleanDisk (state S.Store conn.new)
         → (origin : StoreOrigin) (steps more : List Step)
         → Stores (state S.Store conn.old) origin at steps → AreRowsOf rows.now more
+        → IsLegalHistory origin.begun (steps ++ more)
         → Keeps (state S.Store conn.new) origin steps }
     // The rows that the store has kept stay, also over a crash.
     ensures spared { AddsToAll (state S.Store conn.old) (state S.Store conn.new) at rows.now result }

@@ -18,8 +18,8 @@ use crate::{StepStore, StoredLedger};
 use dots::{Memory, SharedBytes};
 use replica::Replica;
 use site_desk::{GuardedJournal, Pass};
-use site_journal::{DecodeFault, DecodedFrame, DeskFault, TakeFault};
-use status_report::Ask;
+use site_journal::{DecodeFault, DecodedFrame, DeskFault, DroppedSteps, StepDeed, TakeFault};
+use status_report::{Answer, Ask};
 use std::marker::Model;
 
 // A site's journal, and the history of its steps. It is seen as both.
@@ -30,7 +30,7 @@ pub(crate) struct RecordedSite<L: StoredLedger> {
     writer: HistoryWriter<L>,
     // Whether a step isn't in the history. Nothing is saved from then on.
     is_lost: bool,
-    // How many bytes the journal's steps kept beside themselves when they were last taken for a commit.
+    // How many bytes the journal's steps kept beside themselves when they were last taken for a commit, and the reports since.
     taken_bytes: u64,
     // The turn of the steps that are done now. It ends when steps are taken for a commit.
     turn: Turn,
@@ -49,13 +49,16 @@ impl<L: StoredLedger> Model for RecordedSite<L> {
     ghost invariant = { λ s. s.is_lost ≡ false → IsRecorded L.base s.prefix s.journal };
 }
 
-// Drops a journal's steps. Fails only when out of memory.
-fn checkpoint<L: StoredLedger>(journal: &mut GuardedJournal<L>) -> Result<(), Memory>
-    ensures dropped { OnOk result (HasDropped journal.old journal.new) }
-    ensures unchanged { OnErr result (journal.new ≡ journal.old) }
-{
-    drop(journal.checkpoint()?);
-    Ok(())
+// How many steps a journal holds at most after a commit, unless memory is lacking. Their drop copies the site, so it waits for many; and no
+// step is refused for a full journal unless 250 are done between two commits.
+const MOST_STEPS_LEFT: usize = 750;
+
+// How many bytes the report has that a step answers with, if it does: such a step has no row.
+fn report_bytes(deed: &StepDeed) -> u64 {
+    match deed {
+        StepDeed::Asked(_, Answer::Report(report)) => report.as_slice().len() as u64,
+        _ => 0,
+    }
 }
 
 impl<L: StoredLedger> RecordedSite<L> {
@@ -99,7 +102,8 @@ impl<L: StoredLedger> RecordedSite<L> {
         self.journal.journal().payload_bytes()
     }
 
-    // How many bytes the steps keep beside themselves that were done since steps were last taken for a commit. No contract says how many.
+    // How many bytes the steps keep beside themselves that were done since steps were last taken for a commit, without those of reports,
+    // which aren't stored. No contract says how many.
     pub fn untaken_bytes(&self) -> u64 {
         self.payload_bytes().saturating_sub(self.taken_bytes)
     }
@@ -149,9 +153,11 @@ impl<L: StoredLedger> RecordedSite<L> {
             prefix,
             writer,
             is_lost,
+            taken_bytes,
             ..
         } = self;
         let receipt = journal.call(pass, asked, copy)?;
+        *taken_bytes = taken_bytes.saturating_add(report_bytes(&receipt.deed));
         record(prefix, writer, is_lost, receipt)
     }
 
@@ -295,8 +301,9 @@ impl<L: StoredLedger> RecordedSite<L> {
         Ok(rest)
     }
 
-    // Drops the journal's steps, and sets `taken_bytes` to 0 with them (no contract says this). The fault is `Memory`, and none is dropped.
-    fn drop_steps(&mut self) -> Result<(), DeskFault>
+    // Drops the journal's steps, returns them, and sets `taken_bytes` to 0 with them (no contract says these two). The fault is `Memory`,
+    // and none is dropped.
+    fn drop_steps(&mut self) -> Result<DroppedSteps, DeskFault>
         ensures dropped { OnOk result (HasDropped self.old.journal self.new.journal) }
         ensures unchanged { OnErr result (self.new ≡ self.old) }
         ensures history { self.new.history ≡ self.old.history }
@@ -307,22 +314,20 @@ impl<L: StoredLedger> RecordedSite<L> {
             taken_bytes,
             ..
         } = self;
-        match checkpoint(journal) {
-            Ok(()) => {
-                *taken_bytes = 0;
-                Ok(())
-            }
-            Err(_) => Err(DeskFault::Memory),
-        }
+        let Ok(dropped) = journal.checkpoint() else {
+            return Err(DeskFault::Memory);
+        };
+        *taken_bytes = 0;
+        Ok(dropped)
     }
 
-    // Does as `rest`, and drops the journal's steps; their turn ends. Faults, in order: 1 those of `rest`; 2 `Memory`, where there is none
-    // for the drop. A fault changes nothing.
+    // Does as `rest`, and drops the journal's steps, which it returns; their turn ends. Faults, in order: 1 those of `rest`; 2 `Memory`,
+    // where there is none for the drop. A fault changes nothing.
     fn take_all<S: StepStore>(
         &mut self,
         store: &S,
         saved: u64,
-    ) -> Result<(S::Group, HistoryPrefix<L>), DeskFault>
+    ) -> Result<(S::Group, HistoryPrefix<L>, DroppedSteps), DeskFault>
         ensures rest { IfOk result (λ rest. IsGroupOfRest S.groups rest.0 rest.1 saved) }
         ensures legal { IfOk result (λ rest. IsLegalHistory L.base rest.1) }
         ensures whole { IfOk result (λ rest. rest.1 ≡ self.old.history) }
@@ -332,31 +337,52 @@ impl<L: StoredLedger> RecordedSite<L> {
         ensures fault { IfErr result (λ fault.
             (fault ≡ DeskFault.Unsaved) ⊎ (fault ≡ DeskFault.Memory)) }
     {
-        let rest = self.rest(store, saved)?;
-        if let Err(fault) = self.drop_steps() {
-            drop(rest);
-            return Err(fault);
+        let (group, history) = self.rest(store, saved)?;
+        match self.drop_steps() {
+            Ok(dropped) => {
+                self.turn = self.turn.next();
+                Ok((group, history, dropped))
+            }
+            Err(fault) => {
+                drop(group);
+                drop(history);
+                Err(fault)
+            }
         }
-        self.turn = self.turn.next();
-        Ok(rest)
     }
 
-    // Does as `take_all` with `drops`, and else as `take_rest`, with their faults. A fault changes nothing.
+    // Whether no step may be added to the journal. No contract says this.
+    pub fn is_full(&self) -> bool {
+        self.journal.journal().is_full()
+    }
+
+    // Whether a commit of the journal's steps drops them too: it holds more than 750, or no step may be added.
+    fn is_long(&self) -> bool {
+        self.is_full() || self.journal.journal().steps().len() > MOST_STEPS_LEFT
+    }
+
+    // Does as `take_all` with `drops`, and else as `take_rest`, with their faults; but where the journal holds many steps it does as
+    // `take_all` if there is memory for that. Returns the steps that were dropped, too. A fault changes nothing.
     pub fn take_steps<S: StepStore>(
         &mut self,
         store: &S,
         saved: u64,
         drops: bool,
-    ) -> Result<(S::Group, HistoryPrefix<L>), DeskFault>
+    ) -> Result<(S::Group, HistoryPrefix<L>, Option<DroppedSteps>), DeskFault>
         ensures rest { IfOk result (λ rest. IsGroupOfRest S.groups rest.0 rest.1 saved) }
         ensures legal { IfOk result (λ rest. IsLegalHistory L.base rest.1) }
         ensures fault { IfErr result (λ fault.
             (fault ≡ DeskFault.Unsaved) ⊎ (fault ≡ DeskFault.Memory)) }
     {
-        if drops {
-            return self.take_all(store, saved);
+        if drops || self.is_long() {
+            match self.take_all(store, saved) {
+                Ok((group, history, dropped)) => return Ok((group, history, Some(dropped))),
+                Err(fault) if drops => return Err(fault),
+                Err(_) => {}
+            }
         }
-        self.take_rest(store, saved)
+        let (group, history) = self.take_rest(store, saved)?;
+        Ok((group, history, None))
     }
 
     // A copy of the site, to which its history leads, and the history. Faults, in order: 1 `Unsaved`, where a step isn't in the history;
@@ -376,13 +402,13 @@ impl<L: StoredLedger> RecordedSite<L> {
         }
     }
 
-    // As `take_all`, and with a copy of the site after the whole history. Faults, in order: 1 those of `copy`; 2 those of `take_all`. A
-    // fault changes nothing.
+    // As `take_all`, and with a copy of the site after the whole history, which stands before the dropped steps. Faults, in order: 1 those
+    // of `copy`; 2 those of `take_all`. A fault changes nothing.
     pub fn take_base<S: StepStore>(
         &mut self,
         store: &S,
         saved: u64,
-    ) -> Result<(S::Group, HistoryPrefix<L>, Replica), DeskFault>
+    ) -> Result<(S::Group, HistoryPrefix<L>, Replica, DroppedSteps), DeskFault>
         ensures rest { IfOk result (λ base. IsGroupOfRest S.groups base.0 base.1 saved) }
         ensures legal { IfOk result (λ base. IsLegalHistory L.base base.1) }
         ensures lead { IfOk result (λ base. LeadAll L.base base.1 base.2) }
@@ -395,7 +421,7 @@ impl<L: StoredLedger> RecordedSite<L> {
         let (copy, before) = self.copy()?;
         drop(before);
         match self.take_all(store, saved) {
-            Ok((group, history)) => Ok((group, history, copy)),
+            Ok((group, history, dropped)) => Ok((group, history, copy, dropped)),
             Err(fault) => {
                 drop(copy);
                 Err(fault)

@@ -2,6 +2,7 @@ ghost use Rattle.std.specs.Prelude.{◌≡◌, ◌++◌, IfOk, List, OnOk};
 ghost use Rattle.replica.specs.Site.{SiteState};
 ghost use Rattle.site_journal.specs.Legal.{LeadAll};
 ghost use Rattle.site_journal.specs.declared.step.Step.{Step};
+ghost use Rattle.stored_desk.specs.Recorded.{IsLegalHistory};
 
 use dots::Memory;
 use replica::Replica;
@@ -17,6 +18,12 @@ pub enum CommitFault {
     /// The disk failed to read or write.
     #[error("input or output failed")]
     Device,
+    /// What the disk has isn't what the store has written.
+    #[error("damaged file")]
+    Damaged,
+    /// Memory is lacking for the commit itself.
+    #[error("out of memory")]
+    Memory,
     /// The store refuses the commit for another cause.
     #[error("commit failed")]
     Other,
@@ -63,14 +70,16 @@ pub trait StepStore: Drop {
     fn group(&self, steps: &[Step]) -> Result<Self::Group, Memory>
         ensures { IfOk result (λ group. groups group steps.now) };
 
-    /// Adds the steps of a group in one commit. After Ok they are durable. After an error, of which `CommitFault` is the cause, the steps
-    /// from before stay durable, it isn't known whether the store has those of the group, and no call follows.
+    /// Adds the steps of a group in one commit, which the site can do after those that the store has. After Ok they are durable. After an
+    /// error, of which `CommitFault` is the cause, the steps from before stay durable, it isn't known whether the store has those of the
+    /// group, and no call follows.
     fn commit(&mut self, group: Self::Group) -> Result<(), CommitFault>
         ensures added { (list more : List Step) → holds self.old list → keeps self.old list
-            → groups group more
+            → groups group more → IsLegalHistory (begun self.old) (list ++ more)
             → OnOk result (holds self.new (list ++ more) × keeps self.new (list ++ more)) }
         ensures kept { (list more : List Step) → holds self.old list → keeps self.old list
-            → groups group more → keeps self.new list }
+            → groups group more → IsLegalHistory (begun self.old) (list ++ more)
+            → keeps self.new list }
         ensures begun { begun self.new ≡ begun self.old };
 
     /// Makes a base of a site. It is called while no lock is held. Fails only when out of memory.

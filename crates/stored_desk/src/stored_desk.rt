@@ -37,9 +37,9 @@ enum Way {
 }
 
 /// A site with a store, which several threads call, each by a pass of its own. A step is done in memory, in the order of a lock; its
-/// receipt is returned once the step is durable, but that of a take at once. A thread that finds the store free commits all steps that aren't
-/// saved yet, and holds no lock meanwhile; all who wait for one of these steps then go on. Calls that begin after a failed commit do no step
-/// (this project's own).
+/// receipt is returned once the step is durable, but that of a take at once. A thread that finds the store free commits all steps that
+/// aren't saved yet, and holds no lock meanwhile; all who wait for one of these steps then go on. Calls that begin after a failed commit do
+/// no step (this project's own).
 #[derive(Drop)]
 pub struct StoredDesk<S: StepStore, L: StoredLedger> {
     site: Mutex<RecordedSite<L>>,
@@ -159,8 +159,8 @@ impl<S: StepStore, L: StoredLedger> StoredDesk<S, L> {
     }
 
     // Locks the site, which is ready for a step: where the steps that no commit has taken keep more than 4 MiB beside themselves, it first
-    // saves all that the site has done, so that no commit needs much more memory than that. Faults, in order: 1 `Unsaved`, where a commit has
-    // failed before; 2 those of `settle_all`.
+    // saves all that the site has done, so that no commit needs much more memory than that. Faults, in order: 1 `Unsaved`, where a commit
+    // has failed before; 2 those of `settle_all`.
     fn lock_ready<R: Wait>(&self, rt: &R) -> Result<MutexGuard<'_, RecordedSite<L>>, DeskFault>
         ensures { IfErr result (λ fault.
             (fault ≡ DeskFault.Unsaved) ⊎ (fault ≡ DeskFault.Memory)) }
@@ -218,8 +218,8 @@ impl<S: StepStore, L: StoredLedger> StoredDesk<S, L> {
         self.settled(rt, done)
     }
 
-    // Puts the vault back after a save that has gone well as `is_saved` says, and wakes those who wait for that. Returns the settled receipt of
-    // a step, if it is saved. A step that isn't comes back.
+    // Puts the vault back after a save that has gone well as `is_saved` says, and wakes those who wait for that. Returns the settled
+    // receipt of a step, if it is saved. A step that isn't comes back.
     fn put_back<R: Wait>(
         &self,
         rt: &R,
@@ -240,9 +240,10 @@ impl<S: StepStore, L: StoredLedger> StoredDesk<S, L> {
         settled
     }
 
-    // Waits until a step, which was done in this turn, is saved, or saves it with all others: where the last commit has saved several steps,
-    // threads that are ready to run go first, so that the commit has their steps too. Errors, each of which drops the receipt, in
-    // order: 1 `Unsaved`, where a commit has failed before; 2 `Memory`, and a later call saves the step; 3 `Unsaved`, where the commit fails.
+    // Waits until a step, which was done in this turn, is saved, or saves it with all others: where the last commit has saved several
+    // steps, threads that are ready to run go first, so that the commit has their steps too. Errors, each of which drops the receipt, in
+    // order: 1 `Unsaved`, where a commit has failed before; 2 `Memory`, and a later call saves the step; 3 `Unsaved`, where the commit
+    // fails.
     fn settle<R: Wait>(&self, rt: &R, done: Done<L>, turn: Turn) -> Result<Settled<L>, DeskFault>
         ensures receipt { IfOk result (λ settled. settled ≡ done) }
         ensures fault { IfErr result (λ fault.
@@ -382,15 +383,15 @@ impl<S: StepStore, L: StoredLedger> StoredDesk<S, L> {
         }
     }
 
-    /// Lets the site take the frame that bytes spell. An error returns the bytes. The step is saved with a later one, or by `settle_all`, and
-    /// nobody waits for that: a receipt of a take says nothing that its caller didn't hand in. Where the unsaved steps keep more than 4 MiB
-    /// beside themselves, it saves them before its own step.
+    /// Lets the site take the frame that bytes spell. An error returns the bytes. The step is saved with a later one, or by `settle_all`,
+    /// and nobody waits for that: a receipt of a take says nothing that its caller didn't hand in. Where the unsaved steps keep more than 4
+    /// MiB beside themselves, it saves them before its own step.
     ///
     /// Errors, in order: 1 `Unsaved`, where a commit has failed before; 2 where the bytes can't be decoded, `Rewound` and `JournalFull`, as
-    /// of a call, and then `Decode`, with the fault of the bytes, or `BadRange` where more follows their frame; 3 `Memory` or `Unsaved`, where
-    /// it can't save steps before its own; 4 `Rewound`; 5 `JournalFull`; 6 `Take`, with the fault for which the site refuses the frame.
-    /// `Memory` may replace a `Take`, and a `Decode` whose fault is after a whole heading, but never one whose fault is in the heading. Only
-    /// after `Unsaved` the step may have been done.
+    /// of a call, and then `Decode`, with the fault of the bytes, or `BadRange` where more follows their frame; 3 `Memory` or `Unsaved`,
+    /// where it can't save steps before its own; 4 `Rewound`; 5 `JournalFull`; 6 `Take`, with the fault for which the site refuses the
+    /// frame. `Memory` may replace a `Take`, and a `Decode` whose fault is after a whole heading, but never one whose fault is in the
+    /// heading. Only after `Unsaved` the step may have been done.
     pub fn take<R: Wait>(
         &self,
         rt: &R,
@@ -425,7 +426,8 @@ impl<S: StepStore, L: StoredLedger> StoredDesk<S, L> {
     }
 
     /// Saves all that the site has done so far, or waits until others have. Errors, in order: 1 `Unsaved`, where a step isn't saved and a
-    /// commit has failed before; 2 `Memory`, and a later call saves them; 3 `Unsaved`, where the commit fails. No contract says what is saved.
+    /// commit has failed before; 2 `Memory`, and a later call saves them; 3 `Unsaved`, where the commit fails. No contract says what is
+    /// saved.
     pub fn settle_all<R: Wait>(&self, rt: &R) -> Result<(), DeskFault>
         ensures { IfErr result (λ fault.
             (fault ≡ DeskFault.Unsaved) ⊎ (fault ≡ DeskFault.Memory)) }
@@ -434,9 +436,22 @@ impl<S: StepStore, L: StoredLedger> StoredDesk<S, L> {
         self.save_first(rt, wanted, Way::Steps)
     }
 
+    /// Where no step may be added, saves all that the site has done so far, and drops the steps of the journal with that; else it returns
+    /// at once. Errors, in order: 1 `Unsaved`, where the store has failed; 2 `Memory`, for the commit; 3 `Unsaved`, where the commit fails.
+    /// If there is no memory for the drop a later call does it. No contract says what is saved and dropped.
+    pub fn make_room<R: Wait>(&self, rt: &R) -> Result<(), DeskFault>
+        ensures { IfErr result (λ fault.
+            (fault ≡ DeskFault.Unsaved) ⊎ (fault ≡ DeskFault.Memory)) }
+    {
+        if !self.site.lock(rt).is_full() {
+            return Ok(());
+        }
+        self.save_first(rt, u64::MAX, Way::Steps)
+    }
+
     /// Saves all that the site has done so far, and drops the steps of the journal; positions go on. Errors, in order: 1 `Unsaved`, where
-    /// the store has failed; 2 `Memory`, and no step is dropped; 3 `Unsaved`, where the commit fails: the steps are dropped from the journal
-    /// all the same. No contract says what is saved and dropped.
+    /// the store has failed; 2 `Memory`, and no step is dropped; 3 `Unsaved`, where the commit fails: the steps are dropped from the
+    /// journal all the same. No contract says what is saved and dropped.
     pub fn checkpoint<R: Wait>(&self, rt: &R) -> Result<(), DeskFault>
         ensures { IfErr result (λ fault.
             (fault ≡ DeskFault.Unsaved) ⊎ (fault ≡ DeskFault.Memory)) }
@@ -445,12 +460,12 @@ impl<S: StepStore, L: StoredLedger> StoredDesk<S, L> {
     }
 
     /// Saves all that the site has done so far, drops the steps of the journal, and puts the site after them in their place in the store.
-    /// The site is copied under its lock. The base is made of that copy, and both commits are done, while no lock is held; a call that has a
-    /// step to save waits for both.
+    /// The site is copied under its lock. The base is made of that copy, and both commits are done, while no lock is held; a call that has
+    /// a step to save waits for both.
     ///
-    /// Errors, in order: 1 `Unsaved` and `Memory`, as of `checkpoint`; 2 `Memory`, where there is none for the base: the steps are saved and
-    /// dropped, the store keeps the base that it had, and later calls go on; 3 `Unsaved`, where the commit of the base fails. No contract says
-    /// what the store has then.
+    /// Errors, in order: 1 `Unsaved` and `Memory`, as of `checkpoint`; 2 `Memory`, where there is none for the base: the steps are saved
+    /// and dropped, the store keeps the base that it had, and later calls go on; 3 `Unsaved`, where the commit of the base fails. No
+    /// contract says what the store has then.
     pub fn replace_base<R: Wait>(&self, rt: &R) -> Result<(), DeskFault>
         ensures { IfErr result (λ fault.
             (fault ≡ DeskFault.Unsaved) ⊎ (fault ≡ DeskFault.Memory)) }
@@ -486,9 +501,9 @@ impl<S: StepStore, L: StoredLedger> StoredDesk<S, L> {
         Ok(true)
     }
 
-    /// Gives up the desk. Returns a desk of its site without a store, which `close` takes, and what was saved: `None` only if a thread was cut
-    /// off in a commit. It saves nothing: steps that nobody settled stand in the journal alone; call `settle_all` first. After a failed commit
-    /// the journal may be ahead of the store.
+    /// Gives up the desk. Returns a desk of its site without a store, which `close` takes, and what was saved: `None` only if a thread was
+    /// cut off in a commit. It saves nothing: steps that nobody settled stand in the journal alone; call `settle_all` first. After a failed
+    /// commit the journal may be ahead of the store.
     pub fn into_parts(self) -> (SiteDesk<L>, Option<SavedSteps<S, L>>)
         ensures { result.0.passes ≡ self.passes }
     {

@@ -17,8 +17,8 @@ use site_journal::{DeskFault, Receipt};
 use std::marker::Model;
 use std::sync::{Mutex, Wait};
 
-// A store, with the steps that it has, which are a prefix of the site's history, and the keeper of their number. After a failed commit it is
-// broken.
+// A store, with the steps that it has, which are a prefix of the site's history, and the keeper of their number. After a failed commit it
+// is broken.
 #[derive(Drop)]
 pub(crate) struct Vault<S: StepStore, L: StoredLedger> {
     store: S,
@@ -162,9 +162,10 @@ impl<S: StepStore, L: StoredLedger> Vault<S, L> {
         Ok(())
     }
 
-    // Saves all steps that the site has done, in one commit; with `drops` the site's journal drops its steps too. Faults, in order: 1
-    // `Unsaved`, where the vault is broken; 2 `Unsaved` and `Memory`, as of `RecordedSite::take_steps`; 3 `Unsaved`, where the commit fails: the
-    // vault is then broken, and with `drops` the journal has dropped its steps. After 1 and 2 vault and journal are as before.
+    // Saves all steps that the site has done, in one commit; the site's journal drops its steps too with `drops`, or where it holds many.
+    // They are released once the site's lock is free. Faults, in order: 1 `Unsaved`, where the vault is broken; 2 `Unsaved` and `Memory`,
+    // as of `RecordedSite::take_steps`; 3 `Unsaved`, where the commit fails: the vault is then broken, and with `drops` the journal has
+    // dropped its steps. After 1 and 2 vault and journal are as before.
     pub fn save_rest<R: Wait>(
         &mut self,
         rt: &R,
@@ -187,7 +188,10 @@ impl<S: StepStore, L: StoredLedger> Vault<S, L> {
         let saved = self.prefix.len();
         let taken = site.lock(rt).take_steps(&self.store, saved, drops);
         match taken {
-            Ok((group, history)) => self.save(rt, mark, group, history),
+            Ok((group, history, dropped)) => {
+                drop(dropped);
+                self.save(rt, mark, group, history)
+            }
             Err(fault) => Err(fault),
         }
     }
@@ -220,9 +224,9 @@ impl<S: StepStore, L: StoredLedger> Vault<S, L> {
         }
     }
 
-    // Saves all steps that the site has done, drops those of its journal, and puts the site after them in their place in the store. Faults, in
-    // order: 1 those of `save_rest` with `drops`, and `Memory` for a copy of the site, which changes nothing; 2 those of `put_base`: after its
-    // `Memory` the steps are saved and dropped, and the base is as before.
+    // Saves all steps that the site has done, drops those of its journal, and puts the site after them in their place in the store. Faults,
+    // in order: 1 those of `save_rest` with `drops`, and `Memory` for a copy of the site, which changes nothing; 2 those of `put_base`:
+    // after its `Memory` the steps are saved and dropped, and the base is as before.
     pub fn save_base<R: Wait>(
         &mut self,
         rt: &R,
@@ -242,7 +246,8 @@ impl<S: StepStore, L: StoredLedger> Vault<S, L> {
         let saved = self.prefix.len();
         let taken = site.lock(rt).take_base(&self.store, saved);
         match taken {
-            Ok((group, history, copy)) => {
+            Ok((group, history, copy, dropped)) => {
+                drop(dropped);
                 if let Err(fault) = self.save(rt, mark, group, history) {
                     drop(copy);
                     return Err(fault);

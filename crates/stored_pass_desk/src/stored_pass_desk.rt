@@ -67,7 +67,7 @@ fn answer_by<S: StepStore, L: StoredLedger, R: Wait>(
 
 // What the site answers, by this pass, once the answer is durable. Where its journal is full, all its steps are saved and dropped, and the
 // site is asked again, 100 times in all, since other threads may have filled it meanwhile. `DeskDown`: another error of a call, an error of
-// `StoredDesk::checkpoint`, or the journal was full each time. The ask may then have been done.
+// `StoredDesk::make_room`, or the journal was full each time. The ask may then have been done.
 fn answer_with_room<S: StepStore, L: StoredLedger, R: Wait>(
     rt: &R,
     desk: &StoredDesk<S, L>,
@@ -85,7 +85,7 @@ fn answer_with_room<S: StepStore, L: StoredLedger, R: Wait>(
             Err(DeskFault::JournalFull) => {}
             Err(_) => return Err(DeskDown),
         }
-        if desk.checkpoint(rt).is_err() {
+        if desk.make_room(rt).is_err() {
             return Err(DeskDown);
         }
     }
@@ -101,8 +101,8 @@ impl<'a, S: StepStore, L: StoredLedger, R: Wait> Desk<R> for StoredPassDesk<'a, 
     /// The site's answer, once it is durable. Where the site's journal is full, all its steps are saved and dropped, and the site is asked
     /// again, 100 times in all.
     ///
-    /// `DeskDown`: a commit of the store has failed; or the desk is out of memory, for the answer, its commit or the drop; or the journal was
-    /// full each time, or is shorter than the pass has seen. The ask may have been done, and nothing shows it to the client.
+    /// `DeskDown`: a commit of the store has failed; or the desk is out of memory, for the answer, its commit or the drop; or the journal
+    /// was full each time, or is shorter than the pass has seen. The ask may have been done, and nothing shows it to the client.
     fn ask(&mut self, rt: &R, asked: Ask) -> Result<Answer, DeskDown> {
         let answered = answer_with_room(rt, self.desk, &mut self.pass, &asked);
         drop(asked);

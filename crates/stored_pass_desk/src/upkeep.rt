@@ -11,9 +11,9 @@ pub const MOST_KEPT: u64 = 67_108_864;
 
 /// A desk whose journal is kept within its limits (this project's own).
 pub trait Upkeep<R> {
-    /// Drops the steps of the journal. A desk without a store does so only where that makes room; one with a store saves them first.
-    /// Errors, in order: 1 `Unsaved`, where the store has failed; 2 `Memory`, and no step is dropped; 3 `Unsaved`, where the commit
-    /// fails: the steps are dropped all the same. The contract says only which errors there are.
+    /// Drops the steps of the journal where that makes room; a desk with a store saves them first. Errors, in order: 1 `Unsaved`, where the
+    /// store has failed; 2 `Memory`, and no step is dropped; 3 `Unsaved`, where the commit fails. The contract says only which errors there
+    /// are.
     fn drop_steps(&self, rt: &R) -> Result<(), DeskFault>
         ensures { IfErr result (λ fault.
             (fault ≡ DeskFault.Unsaved) ⊎ (fault ≡ DeskFault.Memory)) };
@@ -39,9 +39,9 @@ impl<L: SiteLedger, R: Wait> Upkeep<R> for SiteDesk<L> {
 }
 
 impl<D: StepStore, L: StoredLedger, R: Wait> Upkeep<R> for StoredDesk<D, L> {
-    // Saves and drops them, full or not, with the errors of `StoredDesk::checkpoint`.
+    // Saves and drops them where that makes room, with the errors of `StoredDesk::make_room`.
     fn drop_steps(&self, rt: &R) -> Result<(), DeskFault> {
-        self.checkpoint(rt)
+        self.make_room(rt)
     }
 
     // Saves and drops them as `StoredDesk::checkpoint_above` does.

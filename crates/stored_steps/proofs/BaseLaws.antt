@@ -1,5 +1,5 @@
 -- Bytes spell one base alone.
-use Rattle.std.proofs.Common.{◌≡◌, ◌≤◌, ◌<◌, ◌^◌, ℕ, List, [], ◌∷◌, ◌++◌, length, take, refl, sym, ap, ap₂, subst, subst₂, ◌∙◌, append_assoc, arith, length-append}
+use Rattle.std.proofs.Common.{◌≡◌, ◌≤◌, ◌<◌, ◌^◌, inl, inr, ℕ, List, [], ◌∷◌, ◌++◌, length, take, refl, sym, ap, ap₂, subst, subst₂, ◌∙◌, append_assoc, arith, length-append}
 use Rattle.std.specs.Int.{w16, w64, from_be_bytes, to_be_bytes}
 use Rattle.std.specs.FinSet as set
 use Rattle.std.specs.List.{flat_map}
@@ -18,7 +18,7 @@ use Rattle.replica.specs.Queues.{AreQueues}
 use Rattle.replica.proofs.SameSites.{delta_through, delta_turned, site_through}
 use Rattle.stored_steps.specs.declared.base.StoredBase.{StoredBase}
 use Rattle.stored_steps.specs.declared.limits.TheConstants.{BASE_VERSION}
-use Rattle.stored_steps.specs.Bases.{HasLimits, IsReadBase, IsRowOfBase, IsSameBase, SpellsBase, SpellsDelta, head_bytes, last_of, list_bytes, name_bytes, numbers_bytes, with_parts}
+use Rattle.stored_steps.specs.Bases.{HasLimits, IsOfBase, IsReadBase, IsRowOfBase, IsSameBase, SpellsBase, SpellsDelta, head_bytes, last_of, list_bytes, name_bytes, numbers_bytes, with_parts}
 use Rattle.stored_steps.specs.Stored.{Stored}
 
 -- what stands at the front, and what follows it, is the same where the fronts are as long
@@ -188,3 +188,8 @@ read_once one other row p q =
       name = same.name;
       starts = same.starts;
     }
+
+-- what is read of the row of a base, written or read, says the same
+pub same_base : (base read : StoredBase) (row : Stored) → IsOfBase base row → IsReadBase row read → IsSameBase base read
+same_base base read row (inl written) is = read_same base read row written is
+same_base base read row (inr was) is = read_once base read row was is

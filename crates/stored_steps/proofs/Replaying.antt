@@ -32,7 +32,7 @@ use Rattle.stored_steps.proofs.RowLaws.{no_start, one_step}
 
 follows : (old : SiteState) (meant : Meaning) (new : SiteState) (result : Result (Unit {0}) Refusal) → result ≢ Err Memory → IsDone old meant new result → Follows old meant new result
 follows old meant new result some (inl f) = f
-follows old meant new result some (inr wanting) = absurd (some wanting.1)
+follows old meant new result some (inr no_memory) = absurd (some no_memory.1)
 
 same_ask : (s t new after : SiteState) (asked : Ask) (given : Answer) → IsSameSite s t → IsAsked s asked given new → IsAsked t asked given after → IsSameSite new after
 same_ask s t new after (ask.Command command) given same p q =

@@ -11,13 +11,13 @@ use Rattle.site_journal.specs.declared.step.StepDeed.{StepDeed}
 use Rattle.site_journal.specs.Journals.{HasAdded, HasDropped, IsFull, IsJournal, IsNewJournal, JournalState}
 use Rattle.stored_steps.specs.declared.base.StoredBase.{StoredBase}
 use Rattle.stored_steps.specs.declared.restored_site.RestoredSite.{RestoredSite}
-use Rattle.stored_steps.specs.Bases.{IsReadBase, IsRowOfBase}
+use Rattle.stored_steps.specs.Bases.{IsOfBase, IsReadBase}
 use Rattle.stored_steps.specs.Restoring.{HasReplayed, HasReplayedStep, HasRoom, IsRestoredSite, step_rows}
 use Rattle.stored_steps.specs.RowsLead.{RowsLead}
 use Rattle.stored_steps.specs.StartRows.{is_start, start_row}
 use Rattle.stored_steps.specs.StepRows.{IsDeedWithinLimits, IsWithinLimits, row_of, row_of_deed, rows_of}
 use Rattle.stored_steps.specs.Stored.{Stored}
-use Rattle.stored_steps.proofs.BaseLaws.{read_same}
+use Rattle.stored_steps.proofs.BaseLaws.{same_base}
 use Rattle.stored_steps.proofs.Replaying.{lead_on, one_site}
 use Rattle.stored_steps.proofs.RowLaws.{HasForm, form_of, started_row}
 
@@ -163,11 +163,11 @@ pub restored_from : (first : Stored) (rest : List Stored) (base : StoredBase) (s
 restored_from first rest base starts j read done counted = record { first = first; rest = rest; rows_are = refl; base = base; base_is = read; name = refl; starts = counted; replayed = done }
 
 -- the site that is restored is the one that the rows of the store led to
-pub same_site_again : (base : StoredBase) (first : Stored) (rest : List Stored) (to : SiteState) (it : RestoredSite) → IsRowOfBase base first → RowsLead base.replica rest to
+pub same_site_again : (base : StoredBase) (first : Stored) (rest : List Stored) (to : SiteState) (it : RestoredSite) → IsOfBase base first → RowsLead base.replica rest to
     → IsRestoredSite (first ∷ rest) it → IsSameSite to it.journal.replica
 same_site_again base first rest to it of led is =
     let rows = is.rows_are in
     let first_is : first ≡ is.first = cc in
     let rest_is : rest ≡ is.rest = cc in
-    let same = read_same base is.base first of (subst (λ (r : Stored). IsReadBase r is.base) (sym first_is) is.base_is) in
+    let same = same_base base is.base first of (subst (λ (r : Stored). IsReadBase r is.base) (sym first_is) is.base_is) in
     one_site base.replica is.base.replica to it.journal.replica rest same.site led (subst (λ (l : List Stored). RowsLead is.base.replica l it.journal.replica) (sym rest_is) is.replayed.led)

@@ -1,5 +1,5 @@
 -- The bytes of a base: what a store keeps of a site before its steps. Numbers are big-endian.
-use Rattle.std.specs.Prelude.{ℕ, ◌≡◌, ◌≢◌, ◌<◌, ◌^◌, List, ◌∷◌, ◌++◌, length}
+use Rattle.std.specs.Prelude.{ℕ, ◌≡◌, ◌≢◌, ◌⊎◌, ◌<◌, ◌^◌, List, ◌∷◌, ◌++◌, length}
 use Rattle.std.specs.Int.{w16, w64, to_be_bytes}
 use Rattle.std.specs.List.{flat_map}
 use Rattle.delta.specs.DeltaStates.{DeltaState}
@@ -89,3 +89,7 @@ pub record IsReadBase (row : Stored) (base : StoredBase) : Type 0 where
   pub accepted : (fault : RestoreFault) → fault ≢ restore.Memory → IsRestoreCause parts fault → ⊥
   pub restored : IsRestored parts base.replica
   pub same : IsBelow parts.pending parts.state → IsSameSite parts base.replica
+
+-- a row is that of a base: as it was written, or as it was read
+abbrev pub IsOfBase : StoredBase → Stored → Type 0
+IsOfBase base row = IsRowOfBase base row ⊎ IsReadBase row base

@@ -11,7 +11,7 @@ ghost use Rattle.site_journal.specs.Legal.{LeadAll, Leads};
 ghost use Rattle.stored_steps.specs.declared.base.StoredBase.{StoredBase};
 ghost use Rattle.stored_steps.specs.declared.restored_site.RestoredSite.{RestoredSite};
 ghost use Rattle.stored_steps.specs.declared.row_fault.RowFault.{RowFault};
-ghost use Rattle.stored_steps.specs.Bases.{IsReadBase, IsRowOfBase, IsSameBase};
+ghost use Rattle.stored_steps.specs.Bases.{IsOfBase, IsReadBase, IsRowOfBase, IsSameBase};
 ghost use Rattle.stored_steps.specs.Restoring.{IsRestoredSite};
 ghost use Rattle.stored_steps.specs.RowsLead.{RowsLead};
 ghost use Rattle.stored_steps.specs.StepRows.{HasRowFault, IsFaultyRow, IsRowOfStep};
@@ -69,10 +69,11 @@ pub fn a_row_is_read_as_one_base()
         → IsSameBase one other }
 {}
 
-/// A site that is restored of the row of a base, and of rows that led from this base to a site, says the same as that site.
+/// A site that is restored of the row of a base, written or read, and of rows that led from this base to a site, says the same as that
+/// site.
 pub fn a_restored_site_did_what_its_rows_say()
     ensures { (base : StoredBase) (row : Stored) (rows : List Stored) (site : SiteState)
-        (found : RestoredSite) → IsRowOfBase base row → RowsLead base.replica rows site
+        (found : RestoredSite) → IsOfBase base row → RowsLead base.replica rows site
         → IsRestoredSite (row ∷ rows) found → IsSameSite site found.journal.replica }
 {}
 

@@ -30,9 +30,9 @@ impl Trial {
     fn commits(self) -> u32 {
         match self {
             Trial::Stops => 1,
-            Trial::GoesOn | Trial::Port => 2,
+            Trial::GoesOn => 2,
+            Trial::Port | Trial::Fills => 4,
             Trial::Saves => 6,
-            Trial::Fills => 5,
         }
     }
 

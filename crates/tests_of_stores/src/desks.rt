@@ -120,7 +120,10 @@ fn take_whole<L: StoredLedger, R: Abort + Wait>(rt: &R, desk: &Desk<L>, pass: &m
 
 // Steps are saved, and dropped of the journal once, and of the store once.
 fn assert_drops<L: StoredLedger, R: Abort + Wait>(rt: &R, desk: &Desk<L>) {
-    let most = Growth { rows: 1, bytes: 0 };
+    let most = Growth {
+        rows: 1,
+        bytes: u64::MAX,
+    };
     assert!(*rt; desk.settle_all(rt).is_ok());
     assert!(*rt; desk.checkpoint_above(rt, 0) == Ok(true));
     assert!(*rt; desk.checkpoint_above(rt, 0) == Ok(false));
@@ -173,6 +176,20 @@ fn assert_cuts<L: StoredLedger, R: Abort + Wait>(
     drop(cut);
 }
 
+// Asserts whether more bytes than these have the store of a desk replace its base, whatever its rows are.
+fn assert_replaces<L: StoredLedger, R: Abort + Wait>(
+    rt: &R,
+    desk: &Desk<L>,
+    bytes: u64,
+    wanted: bool,
+) {
+    let most = Growth {
+        rows: u64::MAX,
+        bytes,
+    };
+    assert!(*rt; desk.replace_base_above(rt, most) == Ok(wanted));
+}
+
 // The steps of a port are saved, and a take with the next of its frames.
 pub(crate) fn assert_port<L: StoredLedger, R: Abort + Wait>(rt: &R, desk: Desk<L>, pass: Pass<L>) {
     let mut pass = pass;
@@ -181,6 +198,8 @@ pub(crate) fn assert_port<L: StoredLedger, R: Abort + Wait>(rt: &R, desk: Desk<L
     assert_cuts(rt, &mut port);
     drop(port);
     drop(pass);
+    assert_replaces(rt, &desk, 3_000, false);
+    assert_replaces(rt, &desk, 2_999, true);
     assert_steps(rt, saved(rt, desk), 3, 0);
 }
 
@@ -195,14 +214,16 @@ fn assert_adds<L: StoredLedger, R: Abort + Wait>(
     drop(answered);
 }
 
-// The journal of this desk's site is full after each step. A session's adds are all done.
+// The journal of this desk's site is full after each step, until a commit drops that. A session's adds are all done, also after a take,
+// which no commit follows.
 pub(crate) fn assert_fills<L: StoredLedger, R: Abort + Wait>(rt: &R, desk: Desk<L>, pass: Pass<L>) {
+    let mut pass = pass;
+    take_whole(rt, &desk, &mut pass);
     let mut sessions = StoredPassDesk::new(&desk, pass);
     assert_adds(rt, &mut sessions, b"SIP/1");
     assert_adds(rt, &mut sessions, b"SIP/2");
-    assert_adds(rt, &mut sessions, b"SIP/3");
     let pass = sessions.into_pass();
-    assert!(*rt; pass.seen() == 3);
+    assert!(*rt; pass.seen() == 4);
     drop(pass);
-    assert_steps(rt, saved(rt, desk), 3, 0);
+    assert_steps(rt, saved(rt, desk), 4, 0);
 }

@@ -115,11 +115,12 @@ impl StepStore for MemoryStore {
         Ok(())
     }
 
-    // It counts no bytes.
+    // Each step counts as a row of 1,000 bytes.
     fn since_base(&self) -> Growth {
+        let rows = self.steps.len().saturating_sub(self.before_base) as u64;
         Growth {
-            rows: self.steps.len().saturating_sub(self.before_base) as u64,
-            bytes: 0,
+            rows,
+            bytes: rows.saturating_mul(1_000),
         }
     }
 }
