@@ -1,13 +1,14 @@
 -- The frames among the items that a link has received.
-use Rattle.std.proofs.Common.{◌≡◌, ◌∙◌, ◌<◌, ℕ, List, [], ◌∷◌, ◌++◌, None, Option, Some, length, refl, replicate, suc, zero, ap, subst, arith}
+use Rattle.std.proofs.Common.{◌≡◌, ◌∙◌, ◌<◌, ℕ, List, [], ◌∷◌, ◌++◌, None, Option, Some, inl, inr, length, refl, replicate, suc, zero, ap, subst, arith}
 use Rattle.std.specs.Prelude.{Bool, IsSomeAnd, nat_lt, true}
 use Rattle.site_peers.specs.declared.link_inlet.InletFault.{InletFault}
 use Rattle.std.proofs.lemmas.Bool.{lt-ltb}
-use Rattle.std.proofs.lemmas.List.Elements.{filter-append}
+use Rattle.std.specs.List.{All}
+use Rattle.std.proofs.lemmas.List.Elements.{All-append, All-cons, All-nil, filter-append}
 use Rattle.link_stream.specs.Items.{IsFrame, beat}
 use Rattle.link_stream.specs.Tagged.{TaggedState}
 use Rattle.site_pumps.specs.Inlets.{InletRun, InletWork}
-use Rattle.site_peers.specs.Received.{HasEndedAt, HasGivenFrame, HasGivenFrames, HasReceived, HasStopped, without_beats}
+use Rattle.site_peers.specs.Received.{HasEndedAt, HasGivenFrame, HasGivenFrames, HasReceived, HasStopped, IsBeatOrFrame, without_beats}
 use Rattle.site_peers.proofs.ReceivedItems.{received_more, received_none}
 
 no_beats : (n : ℕ) → without_beats (replicate n beat) ≡ []
@@ -27,12 +28,23 @@ frame_first n frame items is =
     filter-append (λ item. nat_lt 4 (length item)) (replicate n beat) (frame ∷ []) ∙ ap (λ l. l ++ without_beats (frame ∷ [])) (no_beats n) ∙ one_frame frame counts in
     filter-append (λ item. nat_lt 4 (length item)) (replicate n beat ++ frame ∷ []) items ∙ ap (λ l. l ++ without_beats items) front
 
+beats_are : (n : ℕ) → All IsBeatOrFrame (replicate n beat)
+beats_are zero = All-nil IsBeatOrFrame
+beats_are (suc n) = All-cons IsBeatOrFrame beat (replicate n beat) (inl refl) (beats_are n)
+
+-- beats, a frame, and more items are beats and frames
+first_are : (n : ℕ) (frame : List ℕ) (items : List (List ℕ)) → IsFrame frame → All IsBeatOrFrame items → All IsBeatOrFrame ((replicate n beat ++ frame ∷ []) ++ items)
+first_are n frame items is are =
+    let one = All-cons IsBeatOrFrame frame [] (inr is) (All-nil IsBeatOrFrame) in
+    All-append IsBeatOrFrame (replicate n beat ++ frame ∷ []) items (All-append IsBeatOrFrame (replicate n beat) (frame ∷ []) (beats_are n) one) are
+
 -- an inlet that gives frames has received items with these frames
 pub frames_of_run : {I : Type 0} (p q : I) (left : I → Option (List ℕ)) (stream : I → TaggedState) (Quiet : I → Type 0) (frames : List (List ℕ))
     → InletRun (λ old item new. HasGivenFrame (left old) (left new) (stream old) item (stream new) × Quiet new) p frames q → HasGivenFrames (left p) (left q) (stream p) frames (stream q)
 frames_of_run {I} p q left stream Quiet [] run = record {
   items = [];
   received = subst (λ (x : I). HasReceived (left p) (left x) (stream p) [] (stream x)) run (received_none (left p) (stream p));
+  are = All-nil IsBeatOrFrame;
   frames_are = refl;
 }
 frames_of_run p q left stream Quiet (frame ∷ frames) run =
@@ -40,6 +52,7 @@ frames_of_run p q left stream Quiet (frame ∷ frames) run =
     let first = run.1.0 in record {
       items = (replicate first.beats beat ++ frame ∷ []) ++ rest.items;
       received = received_more (left p) (left run.0) (left q) (stream p) (stream run.0) (stream q) (replicate first.beats beat ++ frame ∷ []) rest.items first.received rest.received;
+      are = first_are first.beats frame rest.items first.is_frame rest.are;
       frames_are = frame_first first.beats frame rest.items first.is_frame ∙ ap (λ l. frame ∷ l) rest.frames_are;
     }
 

@@ -1,6 +1,6 @@
 -- What a link has received (this project's own).
-use Rattle.std.specs.Prelude.{ℕ, ◌≡◌, ◌+◌, Bool, IsSomeAnd, List, None, Option, Some, [], ◌∷◌, ◌++◌, length, nat_lt, replicate}
-use Rattle.std.specs.List.{filter}
+use Rattle.std.specs.Prelude.{ℕ, ◌≡◌, ◌⊎◌, ◌+◌, Bool, IsSomeAnd, List, None, Option, Some, [], ◌∷◌, ◌++◌, length, nat_lt, replicate}
+use Rattle.std.specs.List.{All, filter}
 use Rattle.std.specs.Io.KnownBytes.{Consumes}
 use Rattle.link_stream.specs.Items.{IsFrame, beat}
 use Rattle.link_stream.specs.Receiving.{IsCause}
@@ -46,8 +46,13 @@ HasEndedAt None here left at stream own ended failed = IsSomeAnd own (λ fault. 
 abbrev pub without_beats : List (List ℕ) → List (List ℕ)
 without_beats items = filter (λ item. nat_lt 4 (length item)) items
 
--- a source had `before` left and has `after` left now: items were received, of which those that aren't beats are these frames
+-- an item is a beat or a frame
+abbrev pub IsBeatOrFrame : List ℕ → Type 0
+IsBeatOrFrame item = (item ≡ beat) ⊎ IsFrame item
+
+-- a source had `before` left and has `after` left now: beats and frames were received, and the frames among them are these
 pub record HasGivenFrames (before after : Option (List ℕ)) (old : TaggedState) (frames : List (List ℕ)) (new : TaggedState) : Type 0 where
   pub items : List (List ℕ)
   pub received : HasReceived before after old items new
+  pub are : All IsBeatOrFrame items
   pub frames_are : without_beats items ≡ frames

@@ -12,7 +12,8 @@ pub record ReadState : Type 0 where
   pub acknowledged : ℕ
   pub last : ℕ
 
--- since when an item is read that isn't whole yet, and when bytes were last read, in milliseconds
+-- since when an item is read that isn't whole yet, how many bytes of it were read, and when bytes were last read, in milliseconds
 pub record ItemTimeState : Type 0 where
   pub begun : Option ℕ
+  pub read : ℕ
   pub last : ℕ

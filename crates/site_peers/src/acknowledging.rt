@@ -102,7 +102,7 @@ impl<'a> StreamAcknowledger<'a> {
 
 impl<'a, R: Wait + Clock> Acknowledge<R> for StreamAcknowledger<'a> {
     // Counts the read, sends an acknowledgement if one is due, and then does as `catch_up`. Errors, in order: `Ending`;
-    // `NoClock`; `Late`, an item takes 60 seconds; `NotSent`.
+    // `NoClock`; `Late`, an item takes too long; `NotSent`.
     fn after_read(&mut self, rt: &R, count: usize) -> Result<(), AcknowledgeFault> {
         if self.ending.reason(rt).is_some() {
             return Err(AcknowledgeFault::Ending);
@@ -110,7 +110,7 @@ impl<'a, R: Wait + Clock> Acknowledge<R> for StreamAcknowledger<'a> {
         let Some(now) = millis(rt) else {
             return Err(AcknowledgeFault::NoClock);
         };
-        if self.time.after_read(now) {
+        if self.time.after_read(count, now) {
             return Err(AcknowledgeFault::Late);
         }
         if let Some(all) = self.count.after_read(count, now) {

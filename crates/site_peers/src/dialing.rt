@@ -8,7 +8,7 @@ use crate::peer_links::Peer;
 use crate::stream_ends::{StreamAcknowledgements, WRITE_WAITS, prepare};
 use crate::window_sink::WindowSink;
 use crate::{
-    BackOff, DialEnd, EndReason, LinkLog, Meeting, OutletFault, PeerLinks, Ring, end_links,
+    BackOff, DialEnd, EndReason, Ending, LinkLog, Meeting, OutletFault, PeerLinks, Ring, end_links,
     meet_acceptor, send_items,
 };
 use ami_text::StdSink;
@@ -27,6 +27,11 @@ use thiserror::Error;
 const CONNECT_MILLIS: u64 = 2_000;
 
 const MOST_ADDRESSES: usize = 4;
+
+// How long after a dialing the next one may begin that is hurried, in milliseconds: where the first led to no link, and where it did.
+const HURRIED_MILLIS: u64 = 100;
+
+const HURRIED_LINK_MILLIS: u64 = 1_000;
 
 // A link that was up, and fell this long after it was dialed or later, in milliseconds, begins the pauses anew.
 const LONG_MILLIS: u64 = 3_000;
@@ -57,10 +62,11 @@ pub enum DialFault {
     Ending,
 }
 
-// Connects to a host and a port: to the first of its first 4 addresses that accepts within 2 seconds. Errors, in order: `NoAddress`,
-// `CannotConnect`.
-fn connect<R: Net<Listener = TcpListener, Stream = TcpStream>>(
+// Connects to a host and a port: to the first of its first 4 addresses that accepts within 2 seconds. If the site ends it tries no further
+// one. Errors, in order: `NoAddress`, `CannotConnect`.
+fn connect<R: Net<Listener = TcpListener, Stream = TcpStream> + Wait>(
     rt: &R,
+    ending: &Ending,
     address: &str,
 ) -> Result<TcpStream, DialFault> {
     let Ok(addresses) = address.to_socket_addrs(rt) else {
@@ -70,7 +76,7 @@ fn connect<R: Net<Listener = TcpListener, Stream = TcpStream>>(
     let mut tried: usize = 0;
     let mut fault = DialFault::NoAddress;
     for address in addresses {
-        if tried >= MOST_ADDRESSES {
+        if tried >= MOST_ADDRESSES || ending.reason(rt).is_some() {
             break;
         }
         tried = tried.saturating_add(1);
@@ -113,7 +119,7 @@ fn meet<R: Wait + Clock + RandomSource, G: Drop>(
     }
 }
 
-// Sends over a link a beat each second and what waits for its peer, until the link falls or the site ends. If the site was asked to end, it
+// Sends over a link beats and what waits for its peer, until the link falls or the site ends. If the site was asked to end, it
 // sends what still waits first, for 2 seconds at most. `taken` frames of others had been taken when the peer's queue was opened. Returns
 // why it ended: `Ending`; `NotPrepared`, the clock can't be read; `Outlet`, the sink's fault; else `Send`.
 fn send<R: Wait + Clock + RandomSource, G: Ring<R> + Drop>(
@@ -181,7 +187,7 @@ fn dial_once<
     R: Net<Listener = TcpListener, Stream = TcpStream> + Wait + Clock + RandomSource,
     G: Ring<R> + Drop,
 >(rt: &R, alloc: Global, links: &PeerLinks<G>, log: LinkLog<'_>, peer: &Peer) -> (bool, DialFault) {
-    let stream = match connect(rt, peer.address.as_str()) {
+    let stream = match connect(rt, &links.ending, peer.address.as_str()) {
         Ok(stream) => stream,
         Err(fault) => return (false, fault),
     };
@@ -247,9 +253,39 @@ fn log_fault<R: Wait>(
     }
 }
 
-// Dials a peer again and again, with pauses, until the site ends, which cuts a pause short. It logs why a link falls, and why there is none
-// if the dialing before had another cause. A peer that turns out to be the site itself is noted. One that refuses the site as `TakenNumber`
-// or `OlderCopy` ends it.
+// Waits for `pause` milliseconds, or until the site ends. Unless the dialing before was refused or reached the site itself, as `end` says,
+// it waits only until another site's link is heard after `hurries` was read, but for `least` milliseconds at least. Returns whether the
+// site ends.
+fn wait_to_dial<R: Wait + Clock, G: Drop>(
+    rt: &R,
+    links: &PeerLinks<G>,
+    end: DialEnd,
+    pause: u64,
+    least: u64,
+    hurries: u64,
+) -> bool {
+    if matches!(end, DialEnd::Refused | DialEnd::Itself) {
+        return links.ending.wait_within(rt, Duration::from_millis(pause));
+    }
+    let least = pause.min(least);
+    if links.ending.wait_within(rt, Duration::from_millis(least)) {
+        return true;
+    }
+    let rest = Duration::from_millis(pause - least);
+    links.ending.wait_unhurried(rt, rest, hurries)
+}
+
+// How many milliseconds are left of `time` that began at `since`. 0 where the clock could not be read.
+fn left_of<R: Clock>(rt: &R, since: Option<u64>, time: u64) -> u64 {
+    match (since, millis(rt)) {
+        (Some(since), Some(now)) => since.saturating_add(time).saturating_sub(now),
+        _ => 0,
+    }
+}
+
+// Dials a peer again and again, with pauses, until the site ends, which cuts a pause short, as `wait_to_dial` says. It logs why a link
+// falls, and why there is none if the dialing before had another cause. A peer that turns out to be the site itself is noted. One that
+// refuses the site as `TakenNumber` or `OlderCopy` ends it.
 fn dial_until_end<
     R: Net<Listener = TcpListener, Stream = TcpStream> + Wait + Clock + RandomSource,
     G: Ring<R> + Drop,
@@ -258,6 +294,7 @@ fn dial_until_end<
     let mut last = None;
     for _ in rt.forever() {
         let begun = millis(rt);
+        let hurries = links.ending.hurries(rt);
         let (was_up, fault) = dial_once(rt, alloc, links, log, peer);
         if fault == DialFault::Ending {
             return;
@@ -275,7 +312,13 @@ fn dial_until_end<
             peer.itself.store(1, Ordering::SeqCst);
         }
         let pause = back_off.pause(end, random(rt));
-        if links.ending().wait_within(rt, Duration::from_millis(pause)) {
+        let spacing = if was_up {
+            HURRIED_LINK_MILLIS
+        } else {
+            HURRIED_MILLIS
+        };
+        let least = left_of(rt, begun, spacing);
+        if wait_to_dial(rt, links, end, pause, least, hurries) {
             return;
         }
     }

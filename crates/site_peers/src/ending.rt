@@ -14,8 +14,8 @@ pub enum EndReason {
     /// Another site says of this site's number what this site has not made: the number was used before, or its store is an older copy.
     #[error("rolled back: another site has frames under this site's number that this site has not made")]
     NotMine,
-    /// More sites than half as many as this site dials have other values under numbers of changes that it knows: numbers were used twice, as
-    /// where a store was lost.
+    /// More sites than half as many as this site dials have other values under numbers of changes that it knows: numbers were used twice,
+    /// as where a store was lost.
     #[error("other sites have other values under numbers of changes that this site knows")]
     Conflict,
     /// A peer knows another store with this site's number.
@@ -42,10 +42,18 @@ fn give_first(reason: &mut Option<EndReason>, given: EndReason) -> bool
     is_first
 }
 
-/// Whether a site ends, and why: the first reason that a thread of it gave. All threads of its links look at it.
+// Why a site ends, if it ends, and how often its dialers were hurried.
+#[derive(Drop)]
+struct State {
+    reason: Option<EndReason>,
+    hurries: u64,
+}
+
+/// Whether a site ends, and why: the first reason that a thread of it gave. All threads of its links look at it. Those that dial wait here
+/// before they dial again, and are hurried when another site has dialed this one.
 #[derive(Drop)]
 pub struct Ending {
-    reason: Mutex<Option<EndReason>>,
+    state: Mutex<State>,
     changed: Condvar,
 }
 
@@ -53,16 +61,18 @@ impl Ending {
     /// The ending of a site that doesn't end yet.
     pub fn new() -> Ending {
         Ending {
-            reason: Mutex::new(None),
+            state: Mutex::new(State {
+                reason: None,
+                hurries: 0,
+            }),
             changed: Condvar::new(),
         }
     }
 
-    /// Ends the site for this reason, if it doesn't end yet, and wakes the threads that wait in `wait_within`. Returns whether it didn't
-    /// end before.
+    /// Ends the site for this reason, if it doesn't end yet, and wakes the threads that wait here. Returns whether it didn't end before.
     pub fn end<R: Wait>(&self, rt: &R, reason: EndReason) -> bool {
-        let mut held = self.reason.lock(rt);
-        let is_first = give_first(&mut held, reason);
+        let mut held = self.state.lock(rt);
+        let is_first = give_first(&mut held.reason, reason);
         drop(held);
         self.changed.notify_all();
         is_first
@@ -70,15 +80,38 @@ impl Ending {
 
     /// Why the site ends. `None`: it doesn't.
     pub fn reason<R: Wait>(&self, rt: &R) -> Option<EndReason> {
-        *self.reason.lock(rt)
+        self.state.lock(rt).reason
+    }
+
+    /// Wakes the threads that wait in `wait_unhurried`.
+    pub fn hurry<R: Wait>(&self, rt: &R) {
+        let mut held = self.state.lock(rt);
+        held.hurries = held.hurries.wrapping_add(1);
+        drop(held);
+        self.changed.notify_all();
+    }
+
+    /// How often `hurry` was called.
+    pub fn hurries<R: Wait>(&self, rt: &R) -> u64 {
+        self.state.lock(rt).hurries
     }
 
     /// Waits for this time, or until the site ends. Returns whether it ends.
     pub fn wait_within<R: Wait + Clock>(&self, rt: &R, time: Duration) -> bool {
-        let held = self.reason.lock(rt);
+        let held = self.state.lock(rt);
         let (held, _) = self
             .changed
-            .wait_timeout_while(rt, held, time, |reason| reason.is_none());
-        held.is_some()
+            .wait_timeout_while(rt, held, time, |state| state.reason.is_none());
+        held.reason.is_some()
+    }
+
+    /// Waits for this time, or until the site ends, or until `hurry` was called after this number of hurries was read. Returns whether the
+    /// site ends.
+    pub fn wait_unhurried<R: Wait + Clock>(&self, rt: &R, time: Duration, hurries: u64) -> bool {
+        let held = self.state.lock(rt);
+        let (held, _) = self.changed.wait_timeout_while(rt, held, time, |state| {
+            state.reason.is_none() && state.hurries == hurries
+        });
+        held.reason.is_some()
     }
 }

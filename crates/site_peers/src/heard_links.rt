@@ -1,6 +1,7 @@
 //! What is known of the links over which a site takes frames, so that each change of it is logged once.
 use crate::HearFault;
 use dots::{Memory, SiteId};
+use link_hello::HelloFault;
 use std::alloc::Global;
 use std::net::{IpAddr, SocketAddr};
 use std::sync::{Mutex, Wait};
@@ -53,6 +54,17 @@ fn set(sites: &mut [bool], site: SiteId, value: bool) -> bool {
 #[derive(Drop)]
 pub(crate) struct HeardLinks {
     known: Mutex<Known>,
+}
+
+// Whether two causes are of one kind: two other versions are, whichever they are.
+fn is_like(one: HearFault, other: HearFault) -> bool {
+    match (one, other) {
+        (
+            HearFault::Hello(HelloFault::OtherVersion(_)),
+            HearFault::Hello(HelloFault::OtherVersion(_)),
+        ) => true,
+        _ => one == other,
+    }
 }
 
 impl HeardLinks {
@@ -122,7 +134,7 @@ impl HeardLinks {
         let mut known = self.known.lock(rt);
         for cause in known.causes.iter_mut() {
             if cause.address == address {
-                let is_news = cause.fault != fault;
+                let is_news = !is_like(cause.fault, fault);
                 cause.fault = fault;
                 return is_news;
             }

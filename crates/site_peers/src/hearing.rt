@@ -162,8 +162,9 @@ fn log_refused<R: Wait, G: Drop>(
     }
 }
 
-// Hears one link, from its hello to its end. That it is up is logged, and earlier causes of its address are forgotten. Returns why it has
-// ended, or why the hello led to no link. The former is logged unless the site ends, the latter by `log_refused`.
+// Hears one link, from its hello to its end. That it is up is logged, earlier causes of its address are forgotten, and the dialers are
+// hurried, as by `PeerLinks::hurry_dialers`. Returns why it has ended, or why the hello led to no link. The former is logged unless the
+// site ends, the latter by `log_refused`.
 fn hear_link<R: Wait + Clock + RandomSource, G: Drop, P: Port<R>>(
     rt: &R,
     alloc: Global,
@@ -187,6 +188,7 @@ fn hear_link<R: Wait + Clock + RandomSource, G: Drop, P: Port<R>>(
     let peer = HeardPeer { site, address };
     links.heard.forget_cause(rt, address.ip());
     log.log_heard(rt, &peer);
+    links.hurry_dialers(rt, site);
     let fault = hear_frames(rt, alloc, links, log, stream, &peer, keys, port);
     if is_conflict(fault) {
         links.heard.note_disputed(rt, site);

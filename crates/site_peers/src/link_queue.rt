@@ -1,4 +1,4 @@
-//! What a link over TCP has to send: a beat each second, and what waits for its peer.
+//! What a link over TCP has to send: a beat every 0.95 seconds, and what waits for its peer.
 use crate::clock::{millis, random};
 use crate::peer_links::Peer;
 use crate::{EndReason, ItemQueue, LinkLog, PeerLinks, Ring};
@@ -8,15 +8,15 @@ use std::sync::Wait;
 use std::sync::atomic::Ordering;
 use std::time::{Clock, Duration};
 
-// The time between two beats, in milliseconds.
-const BEAT_MILLIS: u64 = 1_000;
+// The time between two beats, in milliseconds: less than a second, so that within one a beat shows that an item is missing.
+const BEAT_MILLIS: u64 = 950;
 
 // How many links are counted at most, for the time between wholes.
 const MOST_LINKS: u64 = 64;
 
-// What a link has to send: a beat each second, and what waits for its peer. Each n/2 to 3n/2 seconds, where n, 2 to 64, is how many links
-// of the site are up, it asks for a whole if frames of others were taken since it last did. At each beat it rings the bell while its peer
-// wants a whole.
+// What a link has to send: a beat every 0.95 seconds, and what waits for its peer. Each n/2 to 3n/2 seconds, where n, 2 to 64, is how many
+// links of the site are up, it asks for a whole if frames of others were taken since it last did. At each beat it rings the bell while its
+// peer wants a whole. It gives a beat at once if the peer's queue has it look at the connection.
 pub(crate) struct LinkQueue<'a, G: Drop> {
     links: &'a PeerLinks<G>,
     log: LinkLog<'a>,
@@ -26,6 +26,8 @@ pub(crate) struct LinkQueue<'a, G: Drop> {
     whole: u64,
     // How many frames of others had been taken when a whole was last asked for.
     taken: u64,
+    // How often it had to look at the connection before the last beat.
+    looks: u64,
     // Whether it is logged that memory is lacking for what waits.
     is_logged: bool,
 }
@@ -39,6 +41,7 @@ impl<'a, G: Drop> Drop for LinkQueue<'a, G> {
             beat: _,
             whole: _,
             taken: _,
+            looks: _,
             is_logged: _,
         } = self;
     }
@@ -46,7 +49,7 @@ impl<'a, G: Drop> Drop for LinkQueue<'a, G> {
 
 impl<'a, G: Drop> LinkQueue<'a, G> {
     // The queue of a link that is up since the time `now`, in milliseconds. When its peer's queue was opened, `taken` frames of others had
-    // been taken. A beat is due at once, and a whole may be asked for after a second.
+    // been taken. A beat is due at once, and a whole may be asked for with the next one.
     pub fn new(
         links: &'a PeerLinks<G>,
         log: LinkLog<'a>,
@@ -61,6 +64,7 @@ impl<'a, G: Drop> LinkQueue<'a, G> {
             beat: now,
             whole: now.saturating_add(BEAT_MILLIS),
             taken,
+            looks: peer.queue.looks(),
             is_logged: false,
         }
     }
@@ -105,7 +109,11 @@ fn last_item<R: Wait + Clock, G: Drop>(
     if reason != EndReason::Asked {
         return None;
     }
-    match queue.peer.queue.take_within(rt, Duration::ZERO) {
+    match queue
+        .peer
+        .queue
+        .take_within(rt, Duration::ZERO, queue.looks)
+    {
         Some(frame) => Some(Item::Frame(frame)),
         None => None,
     }
@@ -126,14 +134,16 @@ impl<'a, R: Wait + Clock + RandomSource, G: Ring<R> + Drop> ItemQueue<R> for Lin
                 return last_item(rt, self, reason);
             }
             let now = millis(rt)?;
-            if now >= self.beat {
+            let looks = self.peer.queue.looks();
+            if now >= self.beat || looks != self.looks {
+                self.looks = looks;
                 self.beat = now.saturating_add(BEAT_MILLIS);
                 ask_whole(rt, self, now);
                 ring_for_whole(rt, self);
                 return Some(Item::Beat);
             }
             let wait = Duration::from_millis(self.beat - now);
-            if let Some(frame) = self.peer.queue.take_within(rt, wait) {
+            if let Some(frame) = self.peer.queue.take_within(rt, wait, looks) {
                 return Some(Item::Frame(frame));
             }
         }

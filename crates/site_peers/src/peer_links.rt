@@ -3,7 +3,7 @@ ghost use Rattle.site_peers.specs.Links.{links_card, links_key, peer_count};
 
 use crate::heard_links::HeardLinks;
 use crate::{EndReason, Ending, LinkLog, SharedOutbox, SharedQueue, SharedRoll};
-use dots::Memory;
+use dots::{Memory, SiteId};
 use link_hello::Card;
 use link_keys::Key;
 use std::alloc::Global;
@@ -102,8 +102,8 @@ fn parts_of(
 
 impl<G: Drop> PeerLinks<G> {
     /// What is shared by the threads of a site that accepts links at `own` and dials these addresses, each a host and a port. `card` is
-    /// what it shows in its hellos, and `key` that of the secret. At most `limit` bytes of frames wait for each peer, beside a whole. Error:
-    /// `Memory`; all is dropped then, the bell too.
+    /// what it shows in its hellos, and `key` that of the secret. At most `limit` bytes of frames wait for each peer, beside a whole.
+    /// Error: `Memory`; all is dropped then, the bell too.
     pub fn new(
         alloc: Global,
         card: Card,
@@ -146,8 +146,8 @@ impl<G: Drop> PeerLinks<G> {
         self.peers.len()
     }
 
-    /// Whether it dials a peer of which it has taken no frame since the launch; the first frame of a link is a whole. A peer to which no link
-    /// was up counts, since its number isn't known. One that has turned out to be the site itself doesn't.
+    /// Whether it dials a peer of which it has taken no frame since the launch; the first frame of a link is a whole. A peer to which no
+    /// link was up counts, since its number isn't known. One that has turned out to be the site itself doesn't.
     pub fn awaits_peers<R: Wait>(&self, rt: &R) -> bool {
         for peer in &self.peers {
             let is_other = peer.itself.load(Ordering::SeqCst) == 0;
@@ -167,6 +167,18 @@ impl<G: Drop> PeerLinks<G> {
             }
         }
         self.heard.disputes(rt).saturating_mul(2) > others
+    }
+
+    // A link of this site was heard: it may have been down, or started anew. The threads that wait to dial are hurried, and the one whose
+    // link leads to this site looks at its connection.
+    pub(crate) fn hurry_dialers<R: Wait>(&self, rt: &R, site: SiteId) {
+        let number = u64::from(site.number());
+        for peer in &self.peers {
+            if peer.number.load(Ordering::SeqCst) == number {
+                peer.queue.look(rt);
+            }
+        }
+        self.ending.hurry(rt);
     }
 
     /// Whether the site ends, and why.

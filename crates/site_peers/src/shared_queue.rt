@@ -1,6 +1,7 @@
 use crate::{MadeFrame, Outbox, SendQueue};
 use dots::SharedBytes;
 use std::alloc::Global;
+use std::sync::atomic::{AtomicU64, Ordering};
 use std::sync::{Condvar, CondvarTimeouts, Mutex, Wait};
 use std::time::{Clock, Duration};
 
@@ -10,6 +11,8 @@ use std::time::{Clock, Duration};
 pub struct SharedQueue {
     queue: Mutex<SendQueue>,
     changed: Condvar,
+    // How often `look` was called.
+    looks: AtomicU64,
 }
 
 impl SharedQueue {
@@ -18,6 +21,7 @@ impl SharedQueue {
         SharedQueue {
             queue: Mutex::new(SendQueue::new(alloc, limit)),
             changed: Condvar::new(),
+            looks: AtomicU64::new(0),
         }
     }
 
@@ -52,13 +56,31 @@ impl SharedQueue {
         self.queue.lock(rt).lacks_memory()
     }
 
-    /// Takes the item that has waited longest. If there is nothing to take it waits for at most this time, until there is. `None`: there
-    /// was nothing to take.
-    pub fn take_within<R: Wait + Clock>(&self, rt: &R, time: Duration) -> Option<SharedBytes> {
+    /// Has the thread of the peer's link look at its connection, for which it wakes it.
+    pub fn look<R: Wait>(&self, rt: &R) {
         let queue = self.queue.lock(rt);
-        let (mut queue, _) = self
-            .changed
-            .wait_timeout_while(rt, queue, time, |queue| queue.is_idle());
+        let _ = self.looks.fetch_add(1, Ordering::SeqCst);
+        drop(queue);
+        self.changed.notify_all();
+    }
+
+    /// How often `look` was called.
+    pub fn looks(&self) -> u64 {
+        self.looks.load(Ordering::SeqCst)
+    }
+
+    /// Takes the item that has waited longest. If there is nothing to take it waits for at most this time, until there is, or until `look`
+    /// is called after this number of looks was read. `None`: there was nothing to take.
+    pub fn take_within<R: Wait + Clock>(
+        &self,
+        rt: &R,
+        time: Duration,
+        looks: u64,
+    ) -> Option<SharedBytes> {
+        let queue = self.queue.lock(rt);
+        let (mut queue, _) = self.changed.wait_timeout_while(rt, queue, time, |queue| {
+            queue.is_idle() && self.looks() == looks
+        });
         queue.take()
     }
 }

@@ -71,6 +71,8 @@ pub(crate) struct StreamAcknowledgements<'a, R, G: Drop> {
     // When it was last looked for one, and when one last came.
     looked: u64,
     came: u64,
+    // How often it had to look at the connection when it last did.
+    looks: u64,
     // Since when it is known that the site ends.
     ended: Option<u64>,
 }
@@ -86,6 +88,7 @@ impl<'a, R, G: Drop> Drop for StreamAcknowledgements<'a, R, G> {
             taken: _,
             looked: _,
             came: _,
+            looks: _,
             ended: _,
         } = self;
         drop(receiver);
@@ -112,6 +115,7 @@ impl<'a, R: Wait + Clock, G: Ring<R> + Drop> StreamAcknowledgements<'a, R, G> {
             taken: 0,
             looked: now,
             came: now,
+            looks: peer.queue.looks(),
             ended: None,
         }
     }
@@ -187,8 +191,9 @@ impl<'a, R: Wait + Clock, G: Ring<R> + Drop> StreamAcknowledgements<'a, R, G> {
 
 impl<'a, R: Wait + Clock, G: Ring<R> + Drop> AcknowledgementReader
     for StreamAcknowledgements<'a, R, G> {
-    // Waits for at most 0.25 seconds if `waits` is true; else it reads at most each 0.9 seconds, and waits for at most 1 ms. Errors, in
-    // order: `NoClock`; `Ending`; those of `read_once`; `Silent` if no number has come for 4 seconds.
+    // Waits for at most 0.25 seconds if `waits` is true; else it reads at most each 0.9 seconds, and where the peer's queue has it look at
+    // the connection, and waits for at most 1 ms. Errors, in order: `NoClock`; `Ending`; those of `read_once`; `Silent` if no number has
+    // come for 4 seconds.
     fn read_last(&mut self, waits: bool) -> Result<Option<u64>, OutletFault> {
         let Some(now) = millis(self.rt) else {
             return Err(OutletFault::NoClock);
@@ -196,9 +201,11 @@ impl<'a, R: Wait + Clock, G: Ring<R> + Drop> AcknowledgementReader
         if self.is_over(now) {
             return Err(OutletFault::Ending);
         }
-        if !waits && now < self.looked.saturating_add(LOOK_MILLIS) {
+        let looks = self.peer.queue.looks();
+        if !waits && looks == self.looks && now < self.looked.saturating_add(LOOK_MILLIS) {
             return Ok(None);
         }
+        self.looks = looks;
         self.looked = now;
         let wait = if waits {
             NEEDED_WAIT_MILLIS

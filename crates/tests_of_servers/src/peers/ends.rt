@@ -12,3 +12,14 @@ fn the_first_reason_stays(rt: HostRuntime) {
     assert!(rt; ending.wait_within(&rt, Duration::from_secs(60)));
     drop(ending);
 }
+
+#[test]
+fn a_hurry_ends_a_wait(rt: HostRuntime) {
+    let ending = Ending::new();
+    let hurries = ending.hurries(&rt);
+    assert!(rt; !ending.wait_unhurried(&rt, Duration::ZERO, hurries));
+    ending.hurry(&rt);
+    assert!(rt; ending.hurries(&rt) != hurries);
+    assert!(rt; !ending.wait_unhurried(&rt, Duration::from_secs(60), hurries));
+    drop(ending);
+}

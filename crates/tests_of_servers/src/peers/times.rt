@@ -46,15 +46,17 @@ fn pauses_double_up_to_one_and_a_half_seconds(rt: HostRuntime) {
 }
 
 #[test]
-fn an_item_takes_less_than_60_seconds(rt: HostRuntime) {
+fn an_item_takes_less_than_60_seconds_or_comes_fast(rt: HostRuntime) {
     let mut time = ItemTime::new(1_000);
-    assert!(rt; !time.after_read(2_000) && !time.after_read(61_999));
-    assert!(rt; time.after_read(62_000));
+    assert!(rt; !time.after_read(1, 2_000) && !time.after_read(1, 61_999));
+    assert!(rt; time.after_read(1, 62_000));
     time.after_item(0);
-    assert!(rt; !time.after_read(70_000));
+    assert!(rt; !time.after_read(1, 70_000));
     time.after_item(5);
-    assert!(rt; !time.after_read(129_999));
-    assert!(rt; time.after_read(130_000));
+    assert!(rt; !time.after_read(0, 129_999));
+    assert!(rt; time.after_read(0, 130_000));
+    assert!(rt; !time.after_read(480_000, 130_000));
+    assert!(rt; time.after_read(1, 130_001) && !time.after_read(2, 130_001));
 }
 
 // Asserts what an end of a link does at this time.
