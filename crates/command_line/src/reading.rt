@@ -57,6 +57,8 @@ pub enum Request {
 enum Refusal {
     // They are wrong, for this cause.
     Wrong(&'static str),
+    // The address of this peer is wrong, counted from 1.
+    WrongPeer(usize),
     // No server has these settings.
     Settings(SettingsFault),
     // The file of a secret, of this kind, can't be read.
@@ -138,6 +140,10 @@ fn refused<R: Eprint>(rt: &R, refusal: Refusal) -> io::Result<Request> {
             eprintln!(rt; "queue_sites: {why}")?;
             Exit::WrongWords
         }
+        Refusal::WrongPeer(number) => {
+            eprintln!(rt; "queue_sites: bad address of peer {number}")?;
+            Exit::WrongWords
+        }
         Refusal::Settings(fault) => {
             eprintln!(rt; "queue_sites: {fault}")?;
             Exit::WrongWords
@@ -200,8 +206,8 @@ fn serve_request<R: Files + AllocGlobal>(rt: &R, words: &ServeWords<'_>) -> Resu
     }
 }
 
-// The queues of a site, the settings of its sessions, and the key of its links. Refused, in order: what `queue_list` does; what `secrets_of`
-// does.
+// The queues of a site, the settings of its sessions, and the key of its links. Refused, in order: what `queue_list` does; what
+// `secrets_of` does.
 fn list_and_secrets<R: Files + AllocGlobal>(
     rt: &R,
     words: &SiteWords<'_>,
@@ -313,8 +319,8 @@ fn check_store(words: StoreWords<'_>) -> Result<(), Refusal>
     }
 }
 
-// Checks the addresses of a site, and how many peers it has. Refused, in order: the address of clients; of links; of a peer; more than 64
-// peers.
+// Checks the addresses of a site, and how many peers it has. Refused, in order: the address of clients; of links; the first bad one of a
+// peer; more than 64 peers.
 fn check_addresses(words: &SiteWords<'_>) -> Result<(), Refusal>
     ensures { OnOk result (vec_len words.now.peers ≤ MOST_PEERS) }
 {
@@ -324,9 +330,9 @@ fn check_addresses(words: &SiteWords<'_>) -> Result<(), Refusal>
     if !is_address(words.links) {
         return Err(Refusal::Wrong("bad address of links"));
     }
-    for peer in &words.peers {
+    for (place, peer) in words.peers.iter().enumerate() {
         if !is_address(peer) {
-            return Err(Refusal::Wrong("bad address of a peer"));
+            return Err(Refusal::WrongPeer(place.saturating_add(1)));
         }
     }
     if words.peers.len() > MOST_PEERS {
