@@ -212,8 +212,8 @@ pub(crate) fn wake<R: Net<Listener = TcpListener, Stream = TcpStream>>(rt: &R, o
 }
 
 /// Ends a site for this reason, if it doesn't end yet; the first reason is logged, in one line. Each call ends the bell, and wakes the
-/// threads that wait to dial and one that accepts links, which wakes the next. So all threads of its links end, unless a wake fails: then
-/// call it again.
+/// threads that wait to dial or to send, and one that accepts links, which wakes the next. So all threads of its links end, unless a wake
+/// fails: then call it again.
 pub fn end_links<R: Net<Listener = TcpListener, Stream = TcpStream> + Wait, G: Ring<R> + Drop>(
     rt: &R,
     links: &PeerLinks<G>,
@@ -224,5 +224,8 @@ pub fn end_links<R: Net<Listener = TcpListener, Stream = TcpStream> + Wait, G: R
         log.log_end(rt, reason);
     }
     links.bell.end(rt);
+    for peer in &links.peers {
+        peer.queue.look(rt);
+    }
     wake(rt, &links.own);
 }

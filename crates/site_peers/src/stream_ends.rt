@@ -29,6 +29,9 @@ const LOOK_MILLIS: u64 = 900;
 
 const LOOK_WAIT_MILLIS: u64 = 1;
 
+// How long no acknowledgement may be found, in milliseconds, since the last one, which may have come a look earlier.
+const MISSED_MILLIS: u64 = SILENT_MILLIS - LOOK_MILLIS;
+
 // How long a read waits for an acknowledgement that is needed, in milliseconds.
 const NEEDED_WAIT_MILLIS: u64 = 250;
 
@@ -192,8 +195,8 @@ impl<'a, R: Wait + Clock, G: Ring<R> + Drop> StreamAcknowledgements<'a, R, G> {
 impl<'a, R: Wait + Clock, G: Ring<R> + Drop> AcknowledgementReader
     for StreamAcknowledgements<'a, R, G> {
     // Waits for at most 0.25 seconds if `waits` is true; else it reads at most each 0.9 seconds, and where the peer's queue has it look at
-    // the connection, and waits for at most 1 ms. Errors, in order: `NoClock`; `Ending`; those of `read_once`; `Silent` if no number has
-    // come for 4 seconds.
+    // the connection, and waits for at most 1 ms. Errors, in order: `NoClock`; `Ending`; those of `read_once`; `Silent` if no number was
+    // found for 3.1 seconds.
     fn read_last(&mut self, waits: bool) -> Result<Option<u64>, OutletFault> {
         let Some(now) = millis(self.rt) else {
             return Err(OutletFault::NoClock);
@@ -215,7 +218,7 @@ impl<'a, R: Wait + Clock, G: Ring<R> + Drop> AcknowledgementReader
         let last = self.read_once(wait)?;
         if last.is_some() {
             self.came = now;
-        } else if now >= self.came.saturating_add(SILENT_MILLIS) {
+        } else if now >= self.came.saturating_add(MISSED_MILLIS) {
             return Err(OutletFault::Silent);
         }
         Ok(last)
