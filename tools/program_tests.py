@@ -127,31 +127,37 @@ def errors_of_serve(program, room):
 def errors_of_site(program, room):
     """The errors of `site` in their order: of its words, of the files of its secrets, of its ports, of its store and of its output."""
     secret, missing = write_secrets(room)
-    store = f"{room}/none/store"
+    store, blank = f"{room}/none/store", f"{room}/blank"
+    with open(blank, "w", encoding="ascii") as file:
+        file.write("s3 \n")
     with socket.create_server(("127.0.0.1", 0)) as taken:
         port = f"127.0.0.1:{taken.getsockname()[1]}"
 
-        def words(number, store, clients, links, peers, queues, file, user, shared):
+        def words(number, store, clients, links, peers, queues, file, user, greeting, shared):
             found = [word for peer in peers for word in ("--peer", peer)]
             files = ["--secret-file", file, "--link-secret-file", shared]
-            return ["site", number, user, *queues, *files, *store, "--clients", clients, "--links", links, *found]
+            return ["site", number, user, *queues, *files, *store, "--clients", clients, "--links", links, "--greeting", greeting, *found]
 
-        wrong = {"number": "64", "store": ["--volatile", "--keep"], "clients": "nowhere", "links": "nowhere", "peers": ["nowhere"] * 65,
-                 "queues": ["a", "a"], "file": missing, "user": "a" * 81, "shared": missing}
+        wrong = {"number": "64", "store": ["--volatile", "--keep"], "clients": "nowhere", "links": "nowhere",
+                 "peers": ["127.0.0.1:9"] * 64 + ["nowhere"], "queues": ["a", "a"], "file": missing, "user": "a" * 81, "greeting": "a" * 81,
+                 "shared": missing}
         check_order(program, words, wrong, [
             (2, b"error: invalid value '64' for '<NUMBER>'", {"number": "63"}),
             (2, b"queue_sites: --keep without --store\n", {"store": ["--keep", "--store", store]}),
             (2, b"queue_sites: bad address of clients\n", {"clients": port}),
             (2, b"queue_sites: bad address of links\n", {"links": port}),
-            (2, b"queue_sites: bad address of a peer\n", {"peers": ["127.0.0.1:9"] * 65}),
+            (2, b"queue_sites: bad address of peer 65\n", {"peers": ["127.0.0.1:9"] * 65}),
             (2, b"queue_sites: more than 64 peers\n", {"peers": ["127.0.0.1:9"] * 64}),
             (2, b"queue_sites: bad queue list\n", {"queues": ["a"]}),
-            (1, b"queue_sites: cannot read the secret's file: " + NO_FILE, {"file": secret}),
+            (1, b"queue_sites: cannot read the secret's file: " + NO_FILE, {"file": blank}),
+            (2, b"queue_sites: bad secret\n", {"file": secret}),
             (2, b"queue_sites: bad user\n", {"user": "admin"}),
+            (2, b"queue_sites: bad greeting\n", {"greeting": "a" * 80}),
             (1, b"queue_sites: cannot read the link secret's file: " + NO_FILE, {"shared": f"{room}/short"}),
             (2, b"queue_sites: bad link secret\n", {"shared": f"{room}/shared"}),
-            (1, f"queue_sites: cannot listen on {port}: {TAKEN}".encode(), {"clients": "127.0.0.1:0"}),
-            (1, f"queue_sites: cannot listen on {port}: {TAKEN}".encode(), {"links": "127.0.0.1:0"}),
+            # A name is an address too.
+            (1, f"queue_sites: cannot listen on {port}: {TAKEN}".encode(), {"clients": "localhost:0"}),
+            (1, f"queue_sites: cannot listen on {port}: {TAKEN}".encode(), {"links": "localhost:0"}),
             (1, f"queue_sites: store {store}: cannot open\n".encode(), {"store": ["--keep", "--store", f"{room}/store"]}),
         ])
         with open("/dev/full", "wb") as full:
@@ -168,9 +174,9 @@ def wrong_words_of_site(program):
     for option, value, name in (("sessions", "0", "N"), ("sessions", "65", "N"), ("idle", "-1", "SECONDS"), ("idle", "soon", "SECONDS")):
         check(program, [*right, f"--{option}={value}"], 2, errors=f"invalid value '{value}' for '--{option} <{name}>'".encode())
     for word in ("", "127.0.0.1", ":5038", "127.0.0.1:", "127.0.0.1:65536", "::1:5038", "[::1]", "host:http"):
-        for option, what in (("clients", "clients"), ("links", "links"), ("peer", "a peer")):
+        for option, what in (("clients", "clients"), ("links", "links"), ("peer", "peer 1")):
             check(program, [*right, f"--{option}={word}"], 2, errors=f"queue_sites: bad address of {what}\n".encode())
-    for word in ("127.0.0.1:65535", "[::1]:5038", "host.example:5038"):
+    for word in ("127.0.0.1:65535", "[::1]:5038", "host.example:5038", "localhost:0"):
         for option in ("clients", "links", "peer"):
             check(program, [*right, f"--{option}={word}"], 1, errors=no_secret)
     for option in ("--sessions=1", "--sessions=64", "--idle=0"):

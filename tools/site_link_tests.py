@@ -24,26 +24,32 @@ import time
 
 from program_tests import NO_COMPILER, Failed, check, compiled_refusal, read
 from server_tests import (
-    BUILT, LITTLE, PATIENCE, SECRET, TRIES, USER, Client, Server, free_ports, has_ipv6, need, shown, until_shown,
+    BUILT, GREETING, LITTLE, PATIENCE, SECRET, TRIES, USER, Client, Server, free_ports, has_ipv6, need, shown,
 )
-from store_tests import SOME_ALLOCATIONS, Owner, Working, check_words, main, members, some_of, tables_of
+from store_tests import (
+    MOST_BYTES, SOME_ALLOCATIONS, Owner, Working, check_words, limited, main, members, small_disk, some_of, tables_of,
+)
 
 # The secret that all sites share, and how long sites may take: to show the same, after links are healed, by way of another site, and
 # after a start; and to refuse.
 SHARED = "correct horse battery staple 123"
 EQUAL, HEALED, RELAYED, RESTARTED, REFUSED = 2, 5, 5, 3, 1
-# How many bytes a second a slow line carries, and how many seconds it may take to show news behind any number of changes.
-SLOW, NEWS = 30_000, 30
+# How long a site waits before it dials again where nobody listens, at most; how long a peer may be silent; and within what time one that
+# acknowledges nothing is given up by a site that looks for that about once a second.
+PAUSE, SILENT, GIVEN_UP = 2.25, 4, 5.5
+# How many bytes a second a slow line carries; how many are under way at most, and wait for a peer; and how many seconds news may take beside
+# those that carry them.
+SLOW, WINDOW, BOX, NEWS = 30_000, 262_144, 1_048_576, 6
 QUEUES = ("sales", "support")
 # Why a site ends of whose number others have frames that it hasn't made.
 NOT_MINE = "rolled back: another site has frames under this site's number that this site has not made"
 CONFLICT = "other sites have other values under numbers of changes that this site knows"
 # How a connection is ended with a reset.
 RESET = struct.pack("ii", 1, 0)
-# Within what time a site learns from its peers that it was rolled back: they dial it again after 2.25 seconds at most.
-DIALED = REFUSED + 2.25
 # The bytes of a beat with its tag.
 BEAT = 20
+# The file that leaves little room on a disk.
+BALLAST = "ballast"
 # How many clients `site` answers at once, where it isn't said.
 PLACES = 16
 # What a site may log where an allocation is refused.
@@ -53,9 +59,11 @@ LACKS = re.compile(rb"queue_sites: (\d+ log lines dropped|site \d+: (no (connect
 
 
 class Site(Server):
-    """A running site. `peers` are the ports, or the addresses and ports, at which it finds other sites. `host` is where it listens."""
+    """A running site. `peers` are the ports, or the addresses and ports, at which it finds other sites. `host` is where it listens. `prepare`
+    runs in its process before the program."""
 
-    def __init__(self, room, number, links, peers=(), store=None, queues=QUEUES, shared=SHARED, options=(), more=None, host="127.0.0.1", port=None):
+    def __init__(self, room, number, links, peers=(), store=None, queues=QUEUES, shared=SHARED, options=(), more=None, host="127.0.0.1", port=None,
+                 prepare=None):
         self.sites, self.address, self.user, self.secret, self.host = 1, host.strip("[]"), USER, SECRET, host
         self.number, self.links, self.port = number, links, port or free_ports(1)
         for name, text in ((f"secret-{number}", SECRET), (f"shared-{number}", shared)):
@@ -67,7 +75,7 @@ class Site(Server):
         for peer in peers:
             words += ["--peer", f"127.0.0.1:{peer}" if isinstance(peer, int) else peer]
         how = {"stdin": subprocess.DEVNULL, "stdout": subprocess.PIPE, "stderr": subprocess.PIPE}
-        self.process = subprocess.Popen(words, env={**os.environ, **(more or {})}, **how)
+        self.process = subprocess.Popen(words, env={**os.environ, **(more or {})}, preexec_fn=prepare, **how)
         self.printed, self.logged, self.listens = b"", b"", None
 
     def before(self):
@@ -80,7 +88,7 @@ class Site(Server):
 
     def wait_until_it_listens(self):
         listens = super().wait_until_it_listens()
-        self.listens = time.monotonic()
+        self.listens = self.listens or time.monotonic()
         return listens
 
     def add(self, *interfaces, queue="sales"):
@@ -88,15 +96,58 @@ class Site(Server):
             for it in interfaces:
                 client.succeed("QueueAdd", Queue=queue, Interface=it)
 
-    def logs(self, text, seconds=PATIENCE):
-        """Needs a line in the log, soon: `queue_sites: site N: ` and this text, in which `ADDRESS` is any address and port."""
-        pattern = re.compile(re.escape(f"queue_sites: site {self.number}: {text}\n").replace("ADDRESS", r"\S+").encode())
-        ends = time.monotonic() + seconds
-        while not pattern.search(self.logged):
-            need(time.monotonic() < ends, f"site {self.number} doesn't log {text!r} within {seconds} s, but {self.logged!r}")
-            if select.select([self.process.stderr], [], [], 0.02)[0]:
-                self.logged += os.read(self.process.stderr.fileno(), 65_536)
-        need(len(pattern.findall(self.logged)) == 1, f"site {self.number} logs {text!r} more than once: {self.logged!r}")
+    def shows(self, interface, seconds, since=None):
+        """Needs that its status has this member within some seconds since this time or since the call. Returns how long that took."""
+        since = since or time.monotonic()
+        while True:
+            found = members(shown(self))
+            taken = time.monotonic() - since
+            need(taken < seconds, f"after {taken:.1f} of {seconds:.1f} s site {self.number} shows {interface}: {interface in found}")
+            if interface in found:
+                return taken
+
+    def line_of(self, text):
+        """A line of the log: `queue_sites: site N: ` and this text, in which `ADDRESS` is any address and port, and `REASON` any text."""
+        escaped = re.escape(f"queue_sites: site {self.number}: {text}\n")
+        return re.compile(escaped.replace("ADDRESS", r"\S+").replace("REASON", r"[^\n]+").encode())
+
+    def read_some(self):
+        """Reads of the log what is there, or comes soon."""
+        if select.select([self.process.stderr], [], [], 0.02)[0]:
+            self.logged += os.read(self.process.stderr.fileno(), 65_536)
+
+    def logs(self, text, seconds=PATIENCE, since=None):
+        """Needs a line in the log (`line_of`), once, and within some seconds since this time or since the call. Returns how long that took."""
+        since, line = since or time.monotonic(), self.line_of(text)
+        while not line.search(self.logged):
+            need(time.monotonic() < since + seconds, f"site {self.number} doesn't log {text!r} within {seconds:.1f} s, but {self.logged!r}")
+            self.read_some()
+        taken = time.monotonic() - since
+        need(taken < seconds, f"site {self.number} logs {text!r} only after {taken:.2f} s")
+        need(len(line.findall(self.logged)) == 1, f"site {self.number} logs {text!r} more than once: {self.logged!r}")
+        return taken
+
+    def logs_only(self, *texts, seconds=PATIENCE, since=None):
+        """Needs just these lines in the log behind those that were forgotten (`line_of`), in any order, all within some seconds since this time or
+        since the call. Then it forgets them: a line that comes late is found by the next call. Returns how long that took."""
+        since = since or time.monotonic()
+        while self.logged.count(b"\n") < len(texts):
+            need(time.monotonic() < since + seconds, f"site {self.number} doesn't log {texts!r} within {seconds:.1f} s, but {self.logged!r}")
+            self.read_some()
+        taken, lines = time.monotonic() - since, self.log_so_far().splitlines(keepends=True)
+        need(taken < seconds, f"site {self.number} logs {texts!r} only after {taken:.2f} s")
+        for text in texts:
+            found = next(filter(self.line_of(text).fullmatch, lines), None)
+            need(found, f"site {self.number} doesn't log {text!r}, but {self.logged!r}")
+            lines.remove(found)
+        need(not lines, f"site {self.number} logs {lines!r} beside {texts!r}")
+        self.logged = b""
+        return taken
+
+    def logs_nothing(self, seconds=0.3):
+        """Needs no line in the log for a while, behind those that were forgotten."""
+        time.sleep(seconds)
+        self.logs_only()
 
     def log_so_far(self):
         """What was logged so far."""
@@ -112,13 +163,14 @@ class Site(Server):
 
 class Proxy:
     """A port that leads to another one. Its connections can be cut, at once or after some bytes more (`left`); be silent, so that all bytes are
-    dropped; delay each piece; or be so slow that not more than `rate` bytes a second go forth. `meddle` and `meddle_back` may alter the next
-    item that goes forth, or the next acknowledgement: a function of it with its tag, which returns what goes in its place, or nothing if it
-    waits for another one. Then both go whole (`goes_whole`)."""
+    dropped, and no end is passed on; delay each piece; or be so slow that not more than `rate` bytes a second go forth. `meddle` and
+    `meddle_back` may alter the next item that goes forth, or the next acknowledgement: a function of it with its tag, which returns what goes in
+    its place, or nothing if it waits for another one. Then both go whole (`goes_whole`). `done` is when that was done, and `meddled` when it could
+    be seen first: where bytes are left out, or missing behind a length that is altered, at the next item that goes this way (`waits_forth`)."""
 
     def __init__(self, target):
         self.target, self.is_up, self.is_silent, self.delay, self.rate, self.left = target, True, False, 0, None, None
-        self.meddle = self.meddle_back = self.meddled = None
+        self.meddle = self.meddle_back = self.done = self.meddled = self.waits_forth = None
         self.carried, self.goes_whole = 0, False
         self.listener = socket.create_server(("127.0.0.1", 0))
         self.port, self.pairs, self.lock = self.listener.getsockname()[1], [], threading.Lock()
@@ -150,11 +202,17 @@ class Proxy:
         name = "meddle" if is_forth else "meddle_back"
         function = getattr(self, name)
         changed = function(item) if function else None
+        if self.waits_forth == is_forth:
+            self.meddled, self.waits_forth = time.monotonic(), None
         if changed is None:
             return item
+        self.done = self.done or time.monotonic()
         if not getattr(function, "goes_on", False):
             setattr(self, name, None)
-            self.meddled = time.monotonic()
+            if changed and (not is_forth or changed[:4] <= item[:4]):
+                self.meddled = time.monotonic()
+            else:
+                self.waits_forth = is_forth
         return changed
 
     def whole(self, held, is_forth):
@@ -169,7 +227,7 @@ class Proxy:
 
     def carry(self, one, other, is_forth):
         """Copies bytes from one connection to the other."""
-        hello, held = 127 if is_forth else 159, b""
+        hello, held, due = 127 if is_forth else 159, b"", 0
         with contextlib.suppress(OSError):
             while True:
                 piece = one.recv(1_024 if self.rate else 65_536)
@@ -178,7 +236,8 @@ class Proxy:
                 if self.delay:
                     time.sleep(self.delay)
                 if self.rate and is_forth:
-                    time.sleep(len(piece) / self.rate)
+                    due = max(due, time.monotonic()) + len(piece) / self.rate
+                    time.sleep(max(0, due - time.monotonic()))
                 self.carried += len(piece) if is_forth else 0
                 if self.goes_whole and not hello:
                     piece, held = self.whole(held + piece, is_forth)
@@ -197,6 +256,8 @@ class Proxy:
                     continue
                 if not self.is_silent:
                     other.sendall(piece)
+        while self.is_silent and self.is_up:
+            time.sleep(0.01)
         reset(one)
         reset(other)
 
@@ -229,10 +290,10 @@ def reset(connection):
 
 
 class Mesh:
-    """Sites that are linked by proxies: `pairs` are those of sites that know of each other."""
+    """Sites that are linked by proxies: `pairs` are those of sites that know of each other. `others` are ports of further peers of each site."""
 
-    def __init__(self, room, sites=3, pairs=None, stores=False, **how):
-        self.room, self.how = room, how
+    def __init__(self, room, sites=3, pairs=None, stores=False, others=(), **how):
+        self.room, self.others, self.how = room, others, how
         self.pairs = pairs or [(one, other) for one in range(sites) for other in range(sites) if one < other]
         self.links, self.sites = [free_ports(1) for _ in range(sites)], {}
         self.proxies = {way: Proxy(self.links[way[1]]) for one, other in self.pairs for way in ((one, other), (other, one))}
@@ -249,11 +310,17 @@ class Mesh:
         for it in self.sites.values():
             it.stop()
 
-    def start(self, site):
+    def start(self, site, **more):
         peers = [proxy.port for (one, _), proxy in self.proxies.items() if one == site]
-        self.sites[site] = Site(self.room, site, self.links[site], peers, self.stores[site], **self.how)
+        self.sites[site] = Site(self.room, site, self.links[site], [*peers, *self.others], self.stores[site], **self.how, **more)
         self.sites[site].wait_until_it_listens()
         return self.sites[site]
+
+    def restart(self, site, number, seconds=RESTARTED):
+        """Starts a site. Needs that all show this number of members, and the same, within some seconds since the start has begun."""
+        started = time.monotonic()
+        self.start(site)
+        return self.until_equal(number, seconds, started)
 
     def stop(self):
         for it in self.proxies.values():
@@ -263,15 +330,24 @@ class Mesh:
         for it in self.proxies.values():
             it.start()
 
+    def until_linked(self):
+        """Needs that each site logs, once and soon, that its links are up, to and from those that it knows of. Then it forgets the logs."""
+        for one, other in self.proxies:
+            self.sites[one].logs(f"link to site {other} at ADDRESS: up", HEALED)
+            self.sites[other].logs(f"link from site {one} at ADDRESS: up", HEALED)
+        for it in self.sites.values():
+            it.forget_log()
+
     def until_equal(self, number, seconds, started=None):
-        """Waits until each site shows this number of members, and all show the same. Returns how long that took."""
+        """Needs that each site shows this number of members, and all show the same, within some seconds since this time or since the call.
+        Returns how long that took."""
         started = started or time.monotonic()
         while True:
             reports = {shown(it) for it in self.sites.values()}
-            if len(reports) == 1 and len(members(next(iter(reports)))) == number:
-                return time.monotonic() - started
-            counts = [len(members(it)) for it in reports]
-            need(time.monotonic() < started + seconds, f"after {seconds} seconds sites show {counts} members, not all the same {number}")
+            taken, counts = time.monotonic() - started, [len(members(it)) for it in reports]
+            need(taken < seconds, f"after {taken:.1f} of {seconds:.1f} seconds sites show {counts} members; all should show the same {number}")
+            if counts == [number]:
+                return taken
             time.sleep(0.02)
 
 
@@ -314,17 +390,20 @@ def links_that_are_down(adds=20):
     with tempfile.TemporaryDirectory() as room, Mesh(room) as mesh:
         mesh.sites[0].add("SIP/first")
         mesh.until_equal(1, EQUAL)
+        mesh.until_linked()
         mesh.stop()
         for number, it in mesh.sites.items():
             it.add(*own_members(number, adds))
             need(len(members(shown(it))) == adds + 1, "a site whose links are down shows other members than its own")
         mesh.heal()
         times.append(mesh.until_equal(3 * adds + 1, HEALED))
+        mesh.until_linked()
         for it in mesh.proxies.values():
             it.is_silent = True
+        silent = time.monotonic()
         mesh.sites[1].add("SIP/silent")
-        # A silent link is given up after four seconds.
-        mesh.sites[1].logs(f"link to 127.0.0.1:{mesh.proxies[1, 0].port}: down: no reply for 4 s", 6)
+        for peer in (0, 2):
+            mesh.sites[1].logs(f"link to 127.0.0.1:{mesh.proxies[1, peer].port}: down: no reply for 4 s", GIVEN_UP, silent)
         for it in mesh.proxies.values():
             it.is_silent = False
             it.cut()
@@ -361,50 +440,65 @@ def slow_lines(adds=400):
     return f"slow lines that are cut within frames: equal after {seconds:.1f} s"
 
 
-def change_members(site, changes, number):
-    """Changes the penalties of a number of members of a site, many at once. Returns how long the slowest answer took."""
-    slowest = 0
-    with site.logged_in() as client:
-        for turn in range(changes):
-            started = time.monotonic()
-            client.succeed("QueuePenalty", Queue="sales", Interface=f"SIP/0-{turn % number}", Penalty=turn)
-            slowest = max(slowest, time.monotonic() - started)
-    return slowest
+class Pauses:
+    """Pauses of members of a site, each in all queues and for another reason of 80 bytes: how long the slowest reply took, and how many took more
+    than 50 ms; and the bytes of a frame that says one, and of one that says all that the site knows (docs/frames.md)."""
+
+    def __init__(self, site, queues, number):
+        self.site, self.names, self.done, self.slowest, self.late = site, own_members(site.number, number), 0, 0, 0
+        # A dot, a queue, an interface and the flags; behind them a pause, and in a whole a penalty and a label without texts too.
+        cells = [13 + len(it) + 11 + 80 for it in self.names]
+        self.frame, self.whole = 45 + queues * max(cells), 45 + queues * sum(it + 13 + 11 for it in cells)
+
+    def add_members(self, queues):
+        for it in queues:
+            self.site.add(*self.names, queue=it)
+
+    def reason(self):
+        """The reason of the last pause."""
+        return f"{self.done:080}"
+
+    def ask(self, client):
+        self.done += 1
+        started = time.monotonic()
+        client.succeed("QueuePause", Interface=self.names[self.done % len(self.names)], Paused="yes", Reason=self.reason())
+        taken = time.monotonic() - started
+        self.slowest, self.late = max(self.slowest, taken), self.late + (taken > 0.05)
 
 
-def news_over_a_slow_line(number=500, changes=6_000):
+def news_over_a_slow_line(number=12, queues=16, behind=10):
     """A line that carries 30,000 bytes a second shows news soon, and stays up, though a site has changed far more than the line can carry: what
-    is under way is at most the window, and what the site knows takes the place of what waits."""
-    with tempfile.TemporaryDirectory() as room, Mesh(room, 2) as mesh:
-        first, second = mesh.sites[0], mesh.sites[1]
-        first.add(*own_members(0, number))
-        mesh.until_equal(number, EQUAL + 3)
-        for it in mesh.sites.values():
-            it.logs(f"link to site {1 - it.number} at ADDRESS: up")
-            it.forget_log()
+    is under way is at most the window, and what the site knows takes the place of what waits. News comes behind both, and `behind` frames."""
+    names = [f"queue-{it}" for it in range(queues)]
+    with tempfile.TemporaryDirectory() as room, Mesh(room, 2, queues=names) as mesh:
+        (first, second), line, pauses = mesh.sites.values(), mesh.proxies[0, 1], Pauses(mesh.sites[0], queues, number)
+        pauses.add_members(names)
+        mesh.until_equal(number, EQUAL)
+        mesh.until_linked()
         for it in mesh.proxies.values():
             it.rate = SLOW
-        slowest, turns, carried = 0, 0, mesh.proxies[0, 1].carried
-        # More than the window and the box hold.
-        while turns < 3 * changes:
-            slowest, turns = max(slowest, change_members(first, changes, number)), turns + changes
-        first.add("SIP/news")
-        started = time.monotonic()
-        # What is under way, and a whole or what came behind it.
-        until_shown(second, 0, b"Location: SIP/news\r\n", NEWS)
-        seconds, carried = time.monotonic() - started, mesh.proxies[0, 1].carried - carried
-        need(all(b": down: " not in it.log_so_far() for it in mesh.sites.values()), "a slow link falls")
-        need(slowest < 2, f"beside a slow line an ask takes {slowest:.3f} s")
+        carried = line.carried
+        with first.logged_in() as client:
+            # Until what was carried, the window and the box don't hold all frames, which have tags behind them but in the box.
+            while pauses.done < (line.carried - carried + WINDOW) / (pauses.frame + 16) + BOX / pauses.frame + behind:
+                pauses.ask(client)
+        first.add("SIP/news", queue=names[0])
+        started, within = time.monotonic(), (WINDOW + pauses.whole) / SLOW + NEWS
+        seconds, carried = second.shows("SIP/news", within, started), line.carried - carried
+        need(pauses.slowest < 2, f"beside a slow line an ask takes {pauses.slowest:.3f} s")
         for it in mesh.proxies.values():
             it.rate = None
         mesh.until_equal(number + 1, HEALED)
-    return f"news over a line of {SLOW:,} bytes a second after {turns:,} changes: shown {seconds:.1f} s after the reply, {carried:,} bytes"
+        for it in mesh.sites.values():
+            it.logs_only()
+    return (f"news over a line of {SLOW:,} bytes a second after {pauses.done:,} changes of {pauses.frame:,} bytes: shown {seconds:.1f} s after the "
+            f"reply, of {within:.1f}; {carried:,} bytes")
 
 
 def restarts(times=4, clients=12):
     """A site with a store is killed while clients change members at all sites, and starts again: what was answered is there, soon at all
     sites."""
-    lot, owners = random.Random(2), [Owner(number, number % 3) for number in range(clients)]
+    lot, owners, slowest = random.Random(2), [Owner(number, number % 3) for number in range(clients)], 0
     with tempfile.TemporaryDirectory() as room, Mesh(room, stores=True) as mesh:
         place_of = lambda it: (mesh.sites[it.site], 0)
         for turn in range(times):
@@ -414,21 +508,24 @@ def restarts(times=4, clients=12):
             time.sleep(lot.uniform(0.1, 0.5))
             dying.is_over.set()
             mesh.sites[killed].stop(signal.SIGKILL)
-            dying.wait()
-            mesh.start(killed)
             started = time.monotonic()
+            mesh.start(killed)
+            dying.wait()
             others.is_done.set()
             others.wait()
             for it in owners:
                 it.check(members(shown(mesh.sites[it.site])))
             wanted = {interface: penalty for it in owners for interface, penalty in it.known.items()}
-            mesh.until_equal(len(wanted), RESTARTED, started)
+            slowest = max(slowest, mesh.until_equal(len(wanted), RESTARTED, started))
             need(members(shown(mesh.sites[0])) == wanted, "sites show the same members otherwise")
-    return f"{times} kills of linked sites among {sum(it.done for it in owners):,} changes"
+    return f"{times} kills of linked sites among {sum(it.done for it in owners):,} changes: equal {slowest:.1f} s after a start has begun, at most"
 
 
 class Peer:
-    """An end of a link that this program speaks itself, as the site of this number. What it is refused for is `verdict`, 0 for nothing."""
+    """An end of a link that this program speaks itself, as the site of this number. What it is refused for is `verdict`, 0 for nothing. `began` is
+    when the site was dialed."""
+
+    began = None
 
     def __init__(self, connection, number, is_dialer=True, shared=SHARED, queues=QUEUES, store=None, starts=1, version=1):
         self.socket, self.number, self.counter, self.is_dialer = connection, number, 0, is_dialer
@@ -498,22 +595,28 @@ class Peer:
 
     def is_closed(self):
         """Whether the site ends the connection within a second, whatever it writes before."""
-        self.socket.settimeout(REFUSED)
+        ends = time.monotonic() + REFUSED
         try:
-            while self.socket.recv(65_536):
-                pass
+            while (left := ends - time.monotonic()) > 0:
+                self.socket.settimeout(left)
+                if not self.socket.recv(65_536):
+                    return True
         except ConnectionError:
             return True
         except TimeoutError:
-            return False
-        return True
+            pass
+        return False
 
 
-def dialed(site, number, **how):
-    """A peer that has dialed a site."""
+def dialed(site, number, within=REFUSED, **how):
+    """A peer that has dialed a site, and has its verdict soon."""
+    began = time.monotonic()
     connection = socket.create_connection(("127.0.0.1", site.links), PATIENCE)
     connection.setsockopt(socket.IPPROTO_TCP, socket.TCP_NODELAY, 1)
-    return Peer(connection, number, **how)
+    peer = Peer(connection, number, **how)
+    peer.began, taken = began, time.monotonic() - began
+    need(taken < within, f"a verdict comes {taken:.2f} s after a site was dialed")
+    return peer
 
 
 def frame_of(maker, number, interface, dot_site=None, count=1):
@@ -522,7 +625,8 @@ def frame_of(maker, number, interface, dot_site=None, count=1):
     dot, stamp = struct.pack(">BQ", site, count), struct.pack(">QB", count, site)
     name = interface.encode()
     cell = dot + struct.pack(">HB", 0, len(name)) + name + b"\x07" + stamp + bytes(4) + stamp + bytes(2) + stamp + bytes(2)
-    body = b"QD\x02" + struct.pack(">BQ", maker, number) + struct.pack(">I", 1) + dot + struct.pack(">Q", count) + struct.pack(">I", 1) + cell + bytes(4)
+    runs, cells = struct.pack(">I", 1) + dot + struct.pack(">Q", count), struct.pack(">I", 1) + cell
+    body = b"QD\x02" + struct.pack(">BQ", maker, number) + runs + cells + bytes(4)
     return struct.pack(">I", len(body)) + body
 
 
@@ -540,7 +644,7 @@ def a_peer_of_another_program():
         need(peer.verdict == 0, f"a site refuses a peer by {peer.verdict}")
         item = peer.tagged(frame_of(7, 1, "SIP/7"))
         peer.send(item)
-        until_shown(site, 0, b"Location: SIP/7\r\n", 1)
+        site.shows("SIP/7", 1)
         sizes = [len(item)]
         while not select.select([peer.socket], [], [], 0.3)[0]:
             peer.send(peer.tagged(bytes(4)))
@@ -552,26 +656,27 @@ def a_peer_of_another_program():
         byte_by_byte = peer.tagged(frame_of(7, 2, "SIP/8", count=2))
         for at in range(len(byte_by_byte)):
             peer.send(byte_by_byte[at:at + 1])
-        until_shown(site, 0, b"Location: SIP/8\r\n", 1)
-        site.logs("link from site 7 at ADDRESS: up")
-        need(b": down" not in site.logged, f"a link to a good peer is down: {site.logged!r}")
+        site.shows("SIP/8", 1)
+        site.logs_only("link from site 7 at ADDRESS: up")
+        site.logs_nothing()
     return "a peer of another program"
 
 
 def hellos_that_are_refused():
-    """Whoever isn't one of the sites is refused, with a line that says why, and the others go on."""
+    """Whoever isn't one of the sites is refused soon after it has dialed, with one line that says why, which isn't repeated where it dials again.
+    The others go on."""
     with tempfile.TemporaryDirectory() as room, Mesh(room, 2) as mesh:
         site = mesh.sites[0]
         mesh.sites[1].add("SIP/1")
         mesh.until_equal(1, EQUAL)
-        refused = lambda why: site.logs(f"no link from ADDRESS: hello: {why}", REFUSED)
-        # A reason is logged once in a row.
+        mesh.until_linked()
+        refused = lambda why, since: site.logs_only(f"no link from ADDRESS: hello: {why}", seconds=REFUSED, since=since)
         for given, why in ((b"GET / HTTP/1.1\r\nHost: a\r\n\r\n", "another protocol"), (b"QSLK\x02" + bytes(32), "version 2 of the protocol"),
                            (os.urandom(4_000), "another protocol")):
-            site.forget_log()
+            began = time.monotonic()
             with socket.create_connection(("127.0.0.1", site.links), PATIENCE) as other:
                 other.sendall(given)
-                refused(why)
+                refused(why, began)
         for number, how, verdict, why in (
             (9, {"shared": f"{SHARED}4"}, 6, "wrong secret"),
             (9, {"queues": QUEUES[::-1]}, 2, "other queues"),
@@ -580,32 +685,79 @@ def hellos_that_are_refused():
             (0, {}, 4, "another site has this site's number"),
             (1, {}, 5, "its site number belongs to another store"),
         ):
-            site.forget_log()
-            peer = dialed(site, number, **how)
-            need(peer.verdict == verdict, f"a peer is refused by {peer.verdict}, and not by {verdict}: {why}")
-            refused(why)
-            peer.socket.close()
+            peers = [dialed(site, number, **how) for _ in range(2)]
+            for peer in peers:
+                need(peer.verdict == verdict, f"a peer is refused by {peer.verdict}, and not by {verdict}: {why}")
+                need(peer.is_closed(), f"a connection goes on behind a refusal: {why}")
+            refused(why, peers[0].began)
         store = os.urandom(16)
         first = dialed(site, 12, store=store, starts=3)
         need(first.verdict == 0, "a peer with a store is refused")
-        site.forget_log()
-        need(dialed(site, 12, store=store, starts=2).verdict == 7, "an older copy of a store is welcome")
-        refused("its store is an older copy")
+        site.logs_only("link from site 12 at ADDRESS: up", seconds=REFUSED, since=first.began)
+        peer = dialed(site, 12, store=store, starts=2)
+        need(peer.verdict == 7, "an older copy of a store is welcome")
+        refused("its store is an older copy", peer.began)
         mesh.sites[1].add("SIP/2")
         mesh.until_equal(2, EQUAL)
         need(all(it.process.poll() is None for it in mesh.sites.values()), "a site has ended")
+        for it in mesh.sites.values():
+            it.logs_nothing()
     return "hellos that are refused"
+
+
+def refuse_site(room, cause, **how):
+    """A site that differs from the others is refused by them, and refuses them, with a line at each end for each way: soon where it dials, and once
+    they dial it too. They exchange nothing, and the others go on. Returns how long that took where it dials, and where it is dialed."""
+    port = free_ports(1)
+    with Mesh(room, 2, others=[port]) as mesh:
+        for number, it in mesh.sites.items():
+            it.add(f"SIP/{number}")
+        mesh.until_equal(2, EQUAL)
+        for it in mesh.sites.values():
+            it.logs(f"link to 127.0.0.1:{port}: down: cannot connect: connection refused")
+        mesh.until_linked()
+        started = time.monotonic()
+        with Site(room, 2, port, mesh.links, **how) as other:
+            there = f"no link from ADDRESS: hello: refused there: {cause}"
+            dials = [other.logs(f"link to 127.0.0.1:{it}: down: hello: {cause}", REFUSED, started) for it in mesh.links]
+            dials += [it.logs(there, REFUSED, started) for it in mesh.sites.values()]
+            other.add("SIP/2")
+            own = [f"link to 127.0.0.1:{port}: down: hello: {cause}", there]
+            is_dialed = [it.logs_only(*own, seconds=PAUSE + REFUSED, since=started) for it in mesh.sites.values()]
+            other.logs_only(*(f"link to 127.0.0.1:{it}: down: hello: {cause}" for it in mesh.links), there, seconds=PAUSE + REFUSED, since=started)
+            mesh.sites[0].add("SIP/3")
+            mesh.until_equal(3, EQUAL)
+            found = members(shown(mesh.sites[0])).keys(), members(shown(other)).keys()
+            need(found == ({"SIP/0", "SIP/1", "SIP/3"}, {"SIP/2"}), f"sites that refuse each other show {found!r}")
+            need(all(it.process.poll() is None for it in (other, *mesh.sites.values())), "a site has ended")
+            for it in (other, *mesh.sites.values()):
+                it.logs_nothing(0.1)
+    return max(dials), max(is_dialed)
+
+
+def sites_that_are_refused():
+    """Sites with other queues, or in another order, or with another secret of links."""
+    cases = [("other queues", {"queues": QUEUES[:1]}), ("other queues", {"queues": QUEUES[::-1]}), ("wrong secret", {"shared": f"{SHARED}4"})]
+    with tempfile.TemporaryDirectory() as room, concurrent.futures.ThreadPoolExecutor(3) as threads:
+        for number in range(len(cases)):
+            os.mkdir(f"{room}/{number}")
+        took = [*threads.map(lambda it: refuse_site(f"{room}/{it}", cases[it][0], **cases[it][1]), range(len(cases)))]
+    dials, is_dialed = (max(times) for times in zip(*took))
+    return f"{len(cases)} sites that are refused: {dials:.2f} s after their start where they dial, and {is_dialed:.1f} s where they are dialed"
 
 
 def items_that_are_refused():
     """A link ends, with a line that says why, at an item that was altered, repeated, left out or put in, or is no frame, and the site goes on."""
     with tempfile.TemporaryDirectory() as room, alone(room) as site:
+        def lost(peer, why):
+            lines = (f"link from site {peer.number} at ADDRESS: {it}" for it in ("up", f"down: {why}"))
+            site.logs_only(*lines, seconds=REFUSED, since=peer.began)
+
         def refused(why, deed, number):
-            site.forget_log()
             peer = dialed(site, number)
             deed(peer)
             need(peer.is_closed(), f"a link isn't ended: {why}")
-            site.logs(f"link from site {number} at ADDRESS: down: {why}", REFUSED)
+            lost(peer, why)
 
         def altered(peer):
             item = bytearray(peer.tagged(frame_of(peer.number, 1, "SIP/bad")))
@@ -629,20 +781,20 @@ def items_that_are_refused():
             refused("bad length", lambda peer: peer.send(peer.tagged(struct.pack(">I", length) + bytes(24))), number)
         frame = frame_of(40, 1, "SIP/bad")
         refused("frame refused: no frame", lambda peer: peer.send(peer.tagged(frame[:4] + b"XX" + frame[6:])), 40)
-        site.forget_log()
         peer = dialed(site, 41)
         peer.socket.close()
-        site.logs("link from site 41 at ADDRESS: down: the connection ended", REFUSED)
-        site.forget_log()
+        lost(peer, "the connection ended")
         peer = dialed(site, 42)
         peer.send(peer.tagged(frame_of(42, 1, "SIP/bad"))[:40])
         peer.socket.close()
-        site.logs("link from site 42 at ADDRESS: down: the connection ended in the middle of an item", REFUSED)
+        lost(peer, "the connection ended in the middle of an item")
         need(members(shown(site)) == {}, "a site has taken what it has refused")
         # A good peer is heard behind all of them.
         peer = dialed(site, 43)
         peer.send(peer.tagged(frame_of(43, 1, "SIP/good")))
-        until_shown(site, 0, b"Location: SIP/good\r\n", REFUSED)
+        site.shows("SIP/good", REFUSED)
+        site.logs_only("link from site 43 at ADDRESS: up")
+        site.logs_nothing()
         need(site.process.poll() is None, "a site has ended")
     return "items that are refused"
 
@@ -677,27 +829,36 @@ class Exchange:
 
 
 def meddle_with(deeds):
-    """Does each of these to the line between two sites: what is done, whether forth, and what is logged then. Returns how long that took at
-    most."""
-    slowest, added = 0, 0
+    """Does each of these to the line between two sites: what is done, whether forth, and what is logged then. The link is down and up once at each
+    end. Returns how long it took at most until a deed was found, since it could be seen and since it was done."""
+    took = [(0, 0)]
     with tempfile.TemporaryDirectory() as room, Mesh(room, 2) as mesh:
-        line = mesh.proxies[0, 1]
+        line, dialer, acceptor = mesh.proxies[0, 1], mesh.sites[0], mesh.sites[1]
         line.goes_whole = True
+        mesh.until_linked()
         line.cut()
-        for deed, is_forth, why in deeds:
-            mesh.until_equal(added, HEALED)
-            site = mesh.sites[1 if is_forth else 0]
-            site.forget_log()
-            line.meddled = None
+        ends = {dialer: ("link to ADDRESS: down: REASON", "link to site 1 at ADDRESS: up"),
+                acceptor: ("link from site 0 at ADDRESS: down: REASON", "link from site 0 at ADDRESS: up")}
+        for it, lines in ends.items():
+            it.logs_only(*lines, seconds=HEALED)
+        for added, (deed, is_forth, why) in enumerate(deeds, 1):
+            site, other = (acceptor, dialer) if is_forth else (dialer, acceptor)
+            line.done = line.meddled = line.waits_forth = None
             setattr(line, "meddle" if is_forth else "meddle_back", deed)
-            mesh.sites[0].add(f"SIP/{added}")
-            added += 1
-            # What is left out is missed at the next item, which comes within a second. A site looks for acknowledgements once a second.
+            dialer.add(f"SIP/{added}")
+            # What is left out can be seen at the next item, which comes within a second.
             site.logs(why, 4)
-            slowest = max(slowest, time.monotonic() - line.meddled)
-            need(slowest < REFUSED + 2, f"what is done to a line is found after {slowest:.1f} seconds: {why}")
-        mesh.until_equal(added, HEALED)
-    return slowest
+            found = time.monotonic()
+            # A length that no item has is found before the next item.
+            took.append((found - (line.meddled or line.done), found - line.done))
+            need(took[-1][0] < REFUSED + 0.5, f"what is done to a line is found {took[-1][0]:.2f} s after it could be seen: {why}")
+            need(took[-1][1] < 2 * REFUSED + 0.5, f"what is done to a line is found after {took[-1][1]:.2f} s: {why}")
+            mesh.until_equal(added, HEALED, found)
+            site.logs_only(why, ends[site][1], seconds=HEALED, since=found)
+            other.logs_only(*ends[other], seconds=HEALED, since=found)
+        for it in ends:
+            it.logs_nothing(0.1)
+    return [max(times) for times in zip(*took)]
 
 
 def who_sits_on_the_line():
@@ -714,8 +875,8 @@ def who_sits_on_the_line():
     all_deeds += [(lambda item: alter(-1)(item) if len(item) == BEAT else None, True, wrong), (Exchange(), True, wrong)]
     all_deeds += [(deed, False, at_dialer) for deed in (alter(1), alter(-1), lambda item: item + item, lambda item: b"")]
     with concurrent.futures.ThreadPoolExecutor(6) as threads:
-        slowest = max(threads.map(meddle_with, (all_deeds[at::6] for at in range(6))))
-    return f"{len(all_deeds)} deeds of who sits on a line: found after {slowest:.1f} s at most"
+        seen, done = (max(times) for times in zip(*threads.map(meddle_with, (all_deeds[at::6] for at in range(6)))))
+    return f"{len(all_deeds)} deeds of who sits on a line: found at most {seen:.2f} s after they could be seen, {done:.2f} s after they were done"
 
 
 def a_late_item(seconds=60):
@@ -736,16 +897,16 @@ def a_late_item(seconds=60):
 
 def ends_by_itself(site, reason, within=REFUSED, seconds=5, asks=True):
     """A site says in time why it ends, and ends with status 1. If it `asks`, a client asks for a change at once, and is not answered: the
-    site makes no change under a number that it must not use. Returns how long it took to say why and to end, since it listened."""
+    site makes no change under a number that it must not use. Returns how long it took to say why and to end, since it listened, or since it was
+    dialed by a peer."""
     with site, contextlib.ExitStack() as clients:
-        client = None
+        client, login = None, f"Action: Login\r\nUsername: {USER}\r\nSecret: {SECRET}\r\n\r\n"
         # A site that ends may be gone before a client has connected.
         with contextlib.suppress(OSError):
             client = clients.enter_context(Client(site.port)) if asks else None
         with contextlib.suppress(OSError):
-            client and client.send(f"Action: Login\r\nUsername: {USER}\r\nSecret: {SECRET}\r\n\r\nAction: QueueAdd\r\nQueue: sales\r\nInterface: SIP/no\r\n\r\n".encode())
-        site.logs(f"ends: {reason}", within)
-        said = time.monotonic() - site.listens
+            client and client.send(f"{login}Action: QueueAdd\r\nQueue: sales\r\nInterface: SIP/no\r\n\r\n".encode())
+        said = site.logs(f"ends: {reason}", within, site.listens)
         try:
             status = site.process.wait(seconds)
         except subprocess.TimeoutExpired:
@@ -789,49 +950,114 @@ def sites_that_end():
         # Site 2 starts from an older copy of its files: at first as often as the others have seen, and then less often.
         mesh.sites[2].stop()
         first = copies(room, 2)
-        mesh.start(2)
+        mesh.restart(2, 3)
         mesh.sites[2].add("SIP/later")
-        mesh.until_equal(4, RESTARTED)
+        mesh.until_equal(4, EQUAL)
         mesh.sites[2].stop()
         later, peers = copies(room, 2), [mesh.proxies[2, 0].port, mesh.proxies[2, 1].port]
         copied_back(room, 2, first)
-        took.append(ends_by_itself(Site(room, 2, mesh.links[2], peers, mesh.stores[2]), NOT_MINE, DIALED))
+        took.append(ends_by_itself(Site(room, 2, mesh.links[2], peers, mesh.stores[2]), NOT_MINE))
         copied_back(room, 2, later)
-        mesh.start(2)
-        mesh.until_equal(4, RESTARTED)
+        # A site whose frame was refused dials again after 5 seconds, and the start waits for it for 4.
+        mesh.restart(2, 4, HEALED)
         mesh.sites[2].stop()
         copied_back(room, 2, first)
-        took.append(ends_by_itself(Site(room, 2, mesh.links[2], peers, mesh.stores[2]), "rolled back: the store is an older copy", DIALED))
+        took.append(ends_by_itself(Site(room, 2, mesh.links[2], peers, mesh.stores[2]), "rolled back: the store is an older copy"))
         del mesh.sites[2]
         mesh.sites[0].add("SIP/more")
         mesh.until_equal(5, EQUAL)
     with tempfile.TemporaryDirectory() as room, alone(room) as site:
         peer = dialed(site, 7)
-        site.listens = time.monotonic()
+        site.listens = peer.began
         peer.send(peer.tagged(frame_of(7, 1, "SIP/none", dot_site=0, count=4)))
         took.append(ends_by_itself(site, NOT_MINE, asks=False))
     said, ended = (max(times) for times in zip(*took))
     return f"sites that end, which say why after {said:.1f} s and end after {ended:.1f} s: another store, an older copy, another's frames"
 
 
+def fill(room, disk, fault, clients=4, **how):
+    """Clients change members of the last of three sites, whose store is on this disk, until it can't be written: then the site ends, with status 1,
+    and says why. The others go on. Once it starts with room all show the same soon, and what it has answered is there. Returns how many changes
+    that were, how long the site took to end, and how long its start."""
+    owners, mesh = [Owner(number, 2) for number in range(clients)], Mesh(room, stores=True)
+    mesh.stores[2] = f"{disk}/site-2.db"
+    with mesh:
+        # The store is made before, so that no line says that it's new.
+        mesh.sites[2].add("SIP/first")
+        mesh.until_equal(1, EQUAL)
+        mesh.sites[2].stop()
+        site = mesh.start(2, **how)
+        working = Working(owners, lambda it: (site, 0), 0, may_end=True)
+        working.wait()
+        started, reasons = time.monotonic(), (f"store failed: {fault}", "ends: the store has failed")
+        for it in reasons:
+            site.logs(it, REFUSED, started)
+        need(site.process.wait(PATIENCE) == 1, f"a site whose store fails ends with status {site.process.returncode}")
+        ended, log, number = time.monotonic() - started, site.stop(), sum(it.done for it in owners)
+        need(number > 0, "a store fails before a change was answered")
+        need(ended < 2 * REFUSED, f"a site whose store fails ends {ended:.1f} s after it has cut off its clients")
+        lines = [it for it in log.splitlines() if not re.fullmatch(rb"queue_sites: site 2: (link|client) .+", it)]
+        need(lines == [f"queue_sites: site 2: {it}".encode() for it in reasons], f"a site whose store fails logs {log!r}")
+        del mesh.sites[2]
+        for place, it in mesh.sites.items():
+            it.add(f"SIP/{place}")
+        for it in mesh.sites.values():
+            for place in mesh.sites:
+                it.shows(f"SIP/{place}", EQUAL)
+        if os.path.exists(f"{disk}/{BALLAST}"):
+            os.remove(f"{disk}/{BALLAST}")
+        started = time.monotonic()
+        mesh.start(2)
+        for it in owners:
+            it.check(members(shown(mesh.sites[2])))
+        wanted = {f"SIP/{it}": 0 for it in ("first", 0, 1)}
+        wanted |= {interface: penalty for it in owners for interface, penalty in it.known.items()}
+        equal = mesh.until_equal(len(wanted), RESTARTED, started)
+        found = members(shown(mesh.sites[0]))
+        need(found == wanted, f"behind a start with room sites show {found!r}, and not {wanted!r}")
+    return number, ended, equal
+
+
+def stores_that_fail():
+    """Sites whose stores can't be written any more: a file that may not grow, and a full disk where this process can have one."""
+    with tempfile.TemporaryDirectory() as room, small_disk(room, "4m") as disk, concurrent.futures.ThreadPoolExecutor(2) as threads:
+        for it in ("mesh-0", "mesh-1", "files"):
+            os.mkdir(f"{room}/{it}")
+        runs = [threads.submit(fill, f"{room}/mesh-0", f"{room}/files", "input or output failed", prepare=limited(MOST_BYTES))]
+        if disk:
+            with open(f"{disk}/{BALLAST}", "wb") as file:
+                file.write(bytes(3 << 20))
+            runs.append(threads.submit(fill, f"{room}/mesh-1", disk, "disk full"))
+        numbers, ended, equal = zip(*(it.result() for it in runs))
+    which = "a file that may not grow" if len(numbers) == 1 else "a file that may not grow, a full disk"
+    return (f"stores that fail ({which}) after {' and '.join(map(str, numbers))} changes: their sites end after {max(ended):.2f} s, and all are "
+            f"equal {max(equal):.1f} s after their starts have begun")
+
+
 def frames_that_conflict():
     """A site refuses a frame that gives a change of a third site another value, and goes on. It ends once it has refused frames of most of its
     peers so."""
-    with tempfile.TemporaryDirectory() as room, Site(room, 0, free_ports(1), [free_ports(1), free_ports(1)]) as site:
+    ports = [free_ports(1) for _ in range(2)]
+    with tempfile.TemporaryDirectory() as room, Site(room, 0, free_ports(1), ports) as site:
         def hands(number, interface):
             peer = dialed(site, number)
             peer.send(peer.tagged(frame_of(number, 1, interface, dot_site=5)))
             return peer
 
-        hands(7, "SIP/first")
-        until_shown(site, 0, b"Location: SIP/first\r\n", REFUSED)
-        need(hands(8, "SIP/other").is_closed(), "a link goes on behind a frame that is refused")
-        site.logs("link from site 8 at ADDRESS: down: frame refused: conflict", REFUSED)
+        site.logs_only(*(f"link to 127.0.0.1:{it}: down: cannot connect: connection refused" for it in ports))
+        first = hands(7, "SIP/first")
+        site.shows("SIP/first", REFUSED)
+        site.logs_only("link from site 7 at ADDRESS: up", seconds=REFUSED, since=first.began)
+        other = hands(8, "SIP/other")
+        need(other.is_closed(), "a link goes on behind a frame that is refused")
+        lines = (f"link from site 8 at ADDRESS: {it}" for it in ("up", "down: frame refused: conflict"))
+        site.logs_only(*lines, seconds=REFUSED, since=other.began)
         site.add("SIP/own")
         found = members(shown(site))
         need(found.keys() == {"SIP/first", "SIP/own"}, f"a site that refuses a frame shows {found!r}")
-        hands(9, "SIP/last")
-        site.listens = time.monotonic()
+        first.socket.close()
+        site.logs_only("link from site 7 at ADDRESS: down: REASON", seconds=REFUSED)
+        site.listens = hands(9, "SIP/last").began
         ends_by_itself(site, CONFLICT, asks=False)
     return "frames that conflict"
 
@@ -844,6 +1070,7 @@ def wakes_that_fail():
             return NO_COMPILER
         with alone(room, more={"LD_PRELOAD": library, "REFUSED_OPTION": "connect"}) as site:
             peer = dialed(site, 7)
+            site.listens = peer.began
             peer.send(peer.tagged(frame_of(7, 1, "SIP/none", dot_site=0, count=4)))
             ends_by_itself(site, NOT_MINE, asks=False)
     return "a site whose first wakes fail"
@@ -870,30 +1097,98 @@ def silent_connections(number=20):
     """Connections that send nothing don't keep out a site."""
     with tempfile.TemporaryDirectory() as room, alone(room) as site:
         silent = [socket.create_connection(("127.0.0.1", site.links), PATIENCE) for _ in range(number)]
-        started = time.monotonic()
-        need(dialed(site, 3).verdict == 0, "a peer behind silent connections is refused")
-        seconds = time.monotonic() - started
-        need(seconds < 3, f"behind {number} silent connections a peer waits {seconds:.1f} seconds")
+        peer = dialed(site, 3, within=3)
+        need(peer.verdict == 0, "a peer behind silent connections is refused")
+        seconds = site.logs_only("link from site 3 at ADDRESS: up", seconds=3, since=peer.began)
         for it in silent:
             it.close()
     return f"{number} silent connections, behind which a peer waits {seconds:.1f} s"
 
 
-def a_peer_that_reads_nothing(asks=4_000):
-    """A site whose peer reads nothing answers its clients at once, keeps little for it, and gives it up after four seconds."""
+def silent_peers():
+    """A site ends a link over which nothing comes for four seconds, behind nothing, a beat or a part of an item. A link with beats goes on."""
+    with tempfile.TemporaryDirectory() as room, alone(room) as site:
+        peers = [dialed(site, number) for number in (3, 4, 5)]
+        good, beat = dialed(site, 6), bytes(4)
+        site.logs_only(*(f"link from site {it} at ADDRESS: up" for it in (3, 4, 5, 6)))
+        began, ended = time.monotonic(), {}
+        for it, given in zip(peers, (b"", peers[1].tagged(beat), peers[2].tagged(frame_of(5, 1, "SIP/5"))[:40])):
+            it.send(given)
+        while len(ended) < len(peers):
+            need(time.monotonic() < began + SILENT + REFUSED, f"{len(ended)} of {len(peers)} silent peers are given up after {SILENT + REFUSED} s")
+            good.send(good.tagged(beat))
+            time.sleep(0.1)
+            for it in select.select([it.socket for it in peers if it not in ended], [], [], 0)[0]:
+                with contextlib.suppress(ConnectionError):
+                    if it.recv(65_536):
+                        continue
+                ended[next(peer for peer in peers if peer.socket is it)] = time.monotonic() - began
+        need(min(ended.values()) > SILENT - 0.5, f"a silent peer is given up after {min(ended.values()):.1f} s")
+        site.logs_only(*(f"link from site {it} at ADDRESS: down: no bytes came" for it in (3, 4, 5)), seconds=SILENT + REFUSED, since=began)
+        good.send(good.tagged(frame_of(6, 1, "SIP/6")))
+        site.shows("SIP/6", REFUSED)
+        site.logs_nothing()
+    return f"silent peers, which are given up after {min(ended.values()):.1f} to {max(ended.values()):.1f} s"
+
+
+class Unread:
+    """A peer that was dialed and reads nothing behind the first beat. It acknowledges that again and again, so that it isn't given up."""
+
+    def __init__(self, peer):
+        self.peer, self.count, self.counted, self.said = peer, len(peer.read(BEAT)), 0, 0
+
+    def say(self):
+        """Acknowledges what it has read, if it last did half a second ago, or 65,536 bytes before."""
+        if time.monotonic() > self.said + 0.5 or self.count >= self.counted + 65_536:
+            self.peer.send(self.peer.acknowledgement(self.count))
+            self.counted, self.said = self.count, time.monotonic()
+
+    def read_until(self, text):
+        """Reads until this text comes."""
+        ends, held = time.monotonic() + PATIENCE, b""
+        while text not in held:
+            need(time.monotonic() < ends, f"{text!r} doesn't come in {self.count:,} bytes")
+            piece = self.peer.socket.recv(65_536)
+            need(piece, f"a link ends behind {self.count:,} bytes")
+            held, self.count = held[-len(text):] + piece, self.count + len(piece)
+            self.say()
+
+
+def a_peer_that_reads_nothing(asks=30_000, number=200):
+    """A site whose peer reads nothing, but lives, answers its clients at once, and keeps little for it: what is under way, what may wait, and what
+    its journal may have. Once the peer reads it gets little more than these, and the last change. It is given up four seconds after its last
+    word."""
     with tempfile.TemporaryDirectory() as room, socket.create_server(("127.0.0.1", 0)) as listener:
         with Site(room, 0, free_ports(1), [listener.getsockname()[1]]) as site:
             listener.settimeout(PATIENCE)
-            connection, _ = listener.accept()
-            need(Peer(connection, 1, is_dialer=False).verdict == 0, "a site refuses a peer that accepts")
-            site.add(*own_members(0, 500))
-            before, slowest = site.memory(), change_members(site, asks, 500)
-            grown = site.memory() - before
-            need(slowest < 0.05, f"beside a peer that reads nothing an ask takes {slowest:.3f} seconds")
-            need(grown < 32 << 20, f"for a peer that reads nothing a site keeps {grown:,} bytes")
-            site.logs("link to ADDRESS: down: no reply for 4 s", 10)
-            connection.close()
-    return f"a peer that reads nothing: the slowest of {asks:,} asks takes {1_000 * slowest:.0f} ms; {grown >> 10:,} KiB more memory"
+            peer = Peer(listener.accept()[0], 1, is_dialer=False)
+            need(peer.verdict == 0, "a site refuses a peer that accepts")
+            unread, pauses = Unread(peer), Pauses(site, len(QUEUES), number)
+            pauses.add_members(QUEUES)
+            with site.logged_in() as client:
+                for times in (asks // 5, asks):
+                    # The first ones fill what may be filled.
+                    before, pauses.slowest, pauses.late = site.memory(), 0, 0
+                    for _ in range(times):
+                        pauses.ask(client)
+                        unread.say()
+            grown, frames = site.memory() - before, asks * pauses.frame
+            # A busy machine holds up some asks.
+            need(pauses.late < 6 and pauses.slowest < 0.5,
+                 f"beside a peer that reads nothing {pauses.late} asks take more than 50 ms, and one {pauses.slowest:.3f} seconds")
+            need(grown < frames // 2, f"for a peer that reads nothing a site keeps {grown:,} bytes of {frames:,}")
+            unread.read_until(pauses.reason().encode())
+            # Frames have tags behind them but in the box, and a whole may be under way and another one wait.
+            most = WINDOW + BOX * (1 + 16 / pauses.frame) + 2 * pauses.whole + 10 * BEAT
+            need(unread.count < most, f"a peer that reads again gets {unread.count:,} bytes, and not at most {most:,.0f}")
+            site.logs_only("link to site 1 at ADDRESS: up")
+            seconds = site.logs_only("link to ADDRESS: down: no reply for 4 s", seconds=GIVEN_UP, since=unread.said)
+            need(seconds > SILENT - 0.3, f"a silent peer is given up after {seconds:.1f} s")
+            site.logs_nothing()
+            peer.socket.close()
+    return (f"a peer that reads nothing: of {asks:,} asks the slowest takes {1_000 * pauses.slowest:.0f} ms, {pauses.late} take more than 50; "
+            f"{grown >> 10:,} KiB more memory, and {unread.count:,} bytes once it reads, where frames have {frames:,}; given up after "
+            f"{seconds:.1f} s")
 
 
 def acknowledgements_that_are_refused():
@@ -904,6 +1199,7 @@ def acknowledgements_that_are_refused():
         with Site(room, 0, free_ports(1), [listener.getsockname()[1]]) as site:
             store = os.urandom(16)
             site.add("SIP/0")
+            up = "link to site 1 at ADDRESS: up"
             # The first beat and the whole have more bytes than are acknowledged here.
             for numbers, why in (
                 ([1 << 40], "bytes were acknowledged that were not sent"),
@@ -915,10 +1211,11 @@ def acknowledgements_that_are_refused():
                 connection, _ = listener.accept()
                 peer = Peer(connection, 1, is_dialer=False, store=store)
                 need(peer.verdict == 0 and len(peer.read(64)) == 64, "a site doesn't send a beat and a whole to a peer that accepts")
-                site.forget_log()
+                site.logs_only(up, seconds=REFUSED)
+                sent = time.monotonic()
                 peer.send(bytes(24) if numbers is None else b"".join(map(peer.acknowledgement, numbers)))
                 # A site looks for acknowledgements once a second.
-                site.logs(f"link to ADDRESS: down: {why}", REFUSED + 1)
+                site.logs_only(f"link to ADDRESS: down: {why}", seconds=REFUSED + 0.5, since=sent)
                 connection.close()
             connection, _ = listener.accept()
             peer = Peer(connection, 1, is_dialer=False, store=store)
@@ -929,38 +1226,59 @@ def acknowledgements_that_are_refused():
             while len(again := peer.item()) == BEAT:
                 need(time.monotonic() < ends, "a site sends no whole to a peer that is behind")
             need(again[16:-16] == whole[16:-16], "a site sends another whole to a peer that is behind")
+            site.logs_only(up)
             connection.close()
     return "acknowledgements that are refused"
 
 
-def addresses():
-    """Sites listen at addresses of IPv6, find others there and by name, and say which port the system has chosen."""
-    if not has_ipv6():
-        return "no addresses of IPv6, since this machine has none"
-    with tempfile.TemporaryDirectory() as room:
-        ports = [free_ports(1) for _ in range(2)]
-        peers = [f"[::1]:{ports[0]}", f"localhost:{ports[1]}"]
-        with Site(room, 0, ports[0], peers, host="[::1]") as first, Site(room, 1, ports[1], peers) as second:
-            first.add("SIP/0")
-            second.add("SIP/1")
-            for it in (first, second):
-                for number in range(2):
-                    until_shown(it, 0, b"Location: SIP/%d\r\n" % number, EQUAL)
-            first.logs(f"link to site 1 at localhost:{ports[1]}: up")
-            second.logs(f"link to site 0 at [::1]:{ports[0]}: up")
-            second.logs("link from site 0 at ADDRESS: up")
-            with first.client() as it:
-                it.ask("Login")
-                first.logs(f"client {it.name}: login failed")
-        words = [BUILT, "site", "3", USER, "sales", "--secret-file", f"{room}/secret-0", "--link-secret-file", f"{room}/shared-0", "--volatile"]
-        with subprocess.Popen([*words, "--clients", "[::1]:0", "--links", "127.0.0.1:0"], stdout=subprocess.PIPE, stderr=subprocess.PIPE) as process:
-            lines = [process.stdout.readline(), process.stdout.readline()]
-            found = [re.fullmatch(rb"listening clients \[::1\]:(\d+)\n", lines[0]), re.fullmatch(rb"listening links 127\.0\.0\.1:(\d+)\n", lines[1])]
-            need(all(found), f"a site prints {lines!r}")
-            Client(int(found[0][1]), address="::1").socket.close()
-            socket.create_connection(("127.0.0.1", int(found[1][1])), PATIENCE).close()
+def linked_at(room, host):
+    """Two sites, the first at this address, which find each other by that address and by name."""
+    ports = [free_ports(1) for _ in range(2)]
+    peers = [f"{host}:{ports[0]}", f"localhost:{ports[1]}"]
+    with Site(room, 0, ports[0], peers, host=host) as first, Site(room, 1, ports[1], peers) as second:
+        first.add("SIP/0")
+        second.add("SIP/1")
+        for it in (first, second):
+            for number in range(2):
+                it.shows(f"SIP/{number}", EQUAL)
+        first.logs(f"link to site 1 at localhost:{ports[1]}: up")
+        second.logs(f"link to site 0 at {host}:{ports[0]}: up")
+        second.logs("link from site 0 at ADDRESS: up")
+        with first.client() as it:
+            it.ask("Login")
+            first.logs(f"client {it.name}: login failed")
+
+
+def chosen_ports(room, clients, links):
+    """A site listens at these hosts, at ports that the system chooses, and says at which ones."""
+    words = [BUILT, "site", "3", USER, "sales", "--secret-file", f"{room}/secret-0", "--link-secret-file", f"{room}/shared-0", "--volatile"]
+    pipes = {"stdout": subprocess.PIPE, "stderr": subprocess.PIPE}
+    with subprocess.Popen([*words, "--clients", f"{clients}:0", "--links", f"{links}:0"], **pipes) as process:
+        try:
+            for what, host in (("clients", clients), ("links", links)):
+                line, named = process.stdout.readline(), r"127\.0\.0\.1|\[::1\]" if host == "localhost" else re.escape(host)
+                found = re.fullmatch(rf"listening {what} ({named}):(\d+)\n", line.decode())
+                need(found, f"a site at {host}:0 prints {line!r}")
+                address = found[1].strip("[]"), int(found[2])
+                if what == "clients":
+                    with Client(address[1], address=address[0]) as client:
+                        need(client.line() == f"{GREETING}\r\n".encode(), "a site doesn't greet at the port that it names")
+                else:
+                    socket.create_connection(address, PATIENCE).close()
+        finally:
             process.kill()
-    return "addresses of IPv6, a name, and ports that the system chooses"
+
+
+def addresses():
+    """Sites listen at addresses of IPv4 and IPv6 and at a name, find others there and by name, and say which port the system has chosen."""
+    hosts = ["127.0.0.1", *(["[::1]"] if has_ipv6() else [])]
+    with tempfile.TemporaryDirectory() as room:
+        for it in hosts:
+            linked_at(room, it)
+        for one, other in zip([*hosts, "localhost"], ["localhost", *hosts]):
+            chosen_ports(room, one, other)
+    which = "IPv4 and IPv6" if len(hosts) == 2 else "IPv4 alone, since this machine has no IPv6"
+    return f"addresses of {which}, a name, and ports that the system chooses"
 
 
 def clients_of_a_site():
@@ -1030,7 +1348,8 @@ def run_refused(room, library, number, stores):
         log, status = site.stop(), site.process.returncode
         lines = [it for it in log.splitlines() if it != f"queue_sites: site 0: new store {place}/site-0.db".encode()]
         if has_ended:
-            texts = rb"queue_sites: (out of memory|no thread|no random bytes|store \S+: out of memory)|queue_sites: site 0: (store failed: .+|ends: the store has failed)"
+            texts = (rb"queue_sites: (out of memory|no thread|no random bytes|store \S+: out of memory|"
+                     rb"site 0: (store failed: .+|ends: the store has failed))")
             need(status == 1, f"where allocation {number} is refused the status is {status}")
             reasons = [it for it in lines if not LACKS.fullmatch(it)]
             need(reasons and all(re.fullmatch(texts, it) for it in reasons), f"where allocation {number} is refused a site logs {log!r}")
@@ -1095,9 +1414,9 @@ def stores_of_sites():
 
 
 TESTS = [words_of_a_site, stores_of_sites, clients_of_a_site, addresses, three_sites, links_that_are_down, only_by_another, slow_lines,
-         news_over_a_slow_line, restarts, a_peer_of_another_program, hellos_that_are_refused, items_that_are_refused,
-         who_sits_on_the_line, acknowledgements_that_are_refused, sites_that_end, frames_that_conflict, wakes_that_fail,
-         a_start_that_waits, silent_connections, a_peer_that_reads_nothing, refused_allocations]
+         news_over_a_slow_line, restarts, a_peer_of_another_program, hellos_that_are_refused, sites_that_are_refused, items_that_are_refused,
+         who_sits_on_the_line, acknowledgements_that_are_refused, sites_that_end, stores_that_fail, frames_that_conflict, wakes_that_fail,
+         a_start_that_waits, silent_connections, silent_peers, a_peer_that_reads_nothing, refused_allocations]
 # What `all` changes, and what it does besides.
 LONGER = {refused_allocations: all_refused_allocations}
 MORE = [a_late_item]

@@ -1,17 +1,21 @@
 """Runs `queue_sites serve --store`: kills it under load and starts it again, reads its files by Python's sqlite3, gives it files that
-are no stores of its sites, fills its disk, and refuses its allocations.
+are no stores of its sites, fills its disk, and refuses its allocations and its writes.
 
     python3 -B tools/store_tests.py [all] [NAME..]
 
-`all`: 100 kills and every allocation, where `./test` has 20 kills and some allocations. NAME: these tests alone."""
+`all`: 100 kills, 200 of a first start, every allocation and every write, where `./test` has 20 kills and some of the others. NAME: these
+tests alone."""
+import collections
 import concurrent.futures
 import contextlib
 import os
 import random
 import re
+import resource
 import shutil
 import signal
 import sqlite3
+import struct
 import subprocess
 import sys
 import tempfile
@@ -20,7 +24,7 @@ import time
 
 from program_tests import NO_COMPILER, Failed, check, compiled_refusal, read
 from server_tests import (
-    BUILT, CAUGHT_UP, GREETING, OF_PEER, PATIENCE, SECRET, SETTLED, LOGGED_OUT_OF_MEMORY, USER, Client, Server, free_ports, need, run_refused, shown, until_shown,
+    BUILT, CAUGHT_UP, GREETING, OF_PEER, PATIENCE, SECRET, SETTLED, LOGGED_OUT_OF_MEMORY, USER, Client, Server, free_ports, need, shown, until_shown,
 )
 
 # How many members each owner has at most.
@@ -47,6 +51,21 @@ NOBODY = 65_534
 MOST_ROWS = 10_000
 # How many of the allocations of a run `./test` refuses.
 SOME_ALLOCATIONS = 30
+# The bytes that a file may have at most where its disk is to be full.
+MOST_BYTES = 1 << 20
+# The bytes of a log's header, and of a frame of it, and how many frames make it long: it is copied into the file before the next change.
+LOG_HEADER, FRAME, LONG_LOG = 32, 24 + PAGE, 1_000
+# What a client asks for while a write fails, the last behind a pause in which a new base is put where one is due.
+CHANGES = [
+    ("QueueAdd", {"Interface": "SIP/a"}),
+    ("QueueAdd", {"Interface": "SIP/b", "Penalty": 3, "MemberName": "Ann"}),
+    ("QueuePause", {"Interface": "SIP/a", "Paused": "yes", "Reason": "lunch"}),
+    ("QueueRemove", {"Interface": "SIP/b"}),
+    ("QueuePenalty", {"Interface": "SIP/a", "Penalty": 5}),
+    ("QueueAdd", {"Interface": "SIP/c"}),
+]
+# How long that pause is, in seconds: a base is put within 50 ms of the row that makes it due.
+PAUSE = 0.3
 
 
 def members(report):
@@ -264,6 +283,28 @@ def kills(times=20, clients=32, sites=2):
     done = sum(it.done for it in owners)
     need(done > times * clients // 2, f"only {done} changes were answered")
     return f"{times} kills among {done:,} changes by {clients} clients"
+
+
+def killed_first_starts(times=20):
+    """A server that is killed at a random moment of its first start starts again: at once, or, where it says that a site has no store and has not
+    listened before, once that site's files are removed."""
+    lot, cut_off, blank = random.Random(6), 0, 0
+    with tempfile.TemporaryDirectory() as room:
+        os.mkdir(folder := f"{room}/whole")
+        server, started = stored(folder), time.monotonic()
+        with server:
+            seconds = time.monotonic() - started
+        for turn in range(times):
+            os.mkdir(folder := f"{room}/stores-{turn}")
+            server = stored(folder)
+            time.sleep(lot.uniform(0, seconds))
+            server.process.kill()
+            has_listened = server.wait_until_it_listens()
+            server.stop()
+            cut_off += not has_listened
+            blank += starts_again(folder, has_served=has_listened)
+    need(cut_off > times // 4, f"of {times} servers that are killed {cut_off} haven't listened")
+    return f"{times} first starts killed, {cut_off} before the server listened; {blank} stores without a table were left"
 
 
 def opened_again(times=30):
@@ -589,31 +630,254 @@ def small_disk(room, size):
             subprocess.run(["umount", disk], check=True)
 
 
-def full_disks(clients=4):
-    """A server whose disk is full says so and ends, with status 1: when it starts, or while clients change members. What it has answered is
-    in its files."""
+def limited(size):
+    """A function that a process calls before it starts a program: no file may grow past this size then, as on a full disk."""
+
+    def limit():
+        signal.signal(signal.SIGXFSZ, signal.SIG_IGN)
+        resource.setrlimit(resource.RLIMIT_FSIZE, (size, size))
+
+    return limit
+
+
+class LimitedServer(Server):
+    """A running server of one site with a store, whose files may not grow past a size."""
+
+    def __init__(self, folder, size):
+        self.sites, self.port, self.user, self.secret, self.address = 1, free_ports(1), USER, SECRET, "127.0.0.1"
+        words = [BUILT, "serve", "--store", folder, "1", str(self.port), USER, SECRET, "sales"]
+        how = {"stdin": subprocess.DEVNULL, "stdout": subprocess.PIPE, "stderr": subprocess.PIPE}
+        self.process = subprocess.Popen(words, preexec_fn=limited(size), **how)
+        self.printed, self.logged = b"", b""
+
+
+def fill(server, folder, room, fault, clients=4):
+    """Clients change members of a server that has begun with no store, until its disk is full: then it ends with status 1, and says why. What it
+    has answered is in its files, of which there is a copy on a larger disk. Returns how many changes that were."""
     owners = [Owner(number, 0) for number in range(clients)]
+    with server:
+        working = Working(owners, lambda it: (server, 0), 0, may_end=True)
+        working.wait()
+        need(server.process.wait(PATIENCE) == 1, f"a server whose disk is full ends with status {server.process.returncode}")
+        log = server.stop()
+        lines = [it for it in log.splitlines(keepends=True) if b": session ended: desk down; " not in it]
+        wanted = new_lines(folder, 1) + f"queue_sites: site 0: store failed: {fault}\n".encode()
+        need(b"".join(lines) == wanted, f"a server whose disk is full logs {log!r}")
+    need(sum(it.done for it in owners) > 20, "the disk was full at once")
+    with stored(copied(folder, room, f"larger-{os.path.basename(folder)}"), 1) as larger:
+        check_shown(larger, owners)
+    return sum(it.done for it in owners)
+
+
+def refuses_new(folder, fault, **how):
+    """A server that can't write a new store doesn't start, says why, and leaves no file, also where it is started again."""
+    for _ in range(2):
+        refuses(folder, 0, fault, **how)
+        need(os.listdir(folder) == [], f"a store that could not be made leaves {os.listdir(folder)!r}")
+
+
+def full_disks():
+    """A server whose disk is full says so and ends, with status 1: when it starts, or while clients change members. What it has answered is
+    in its files. The same holds where its files may not grow past a size."""
     with tempfile.TemporaryDirectory() as room:
+        os.mkdir(folder := f"{room}/limited")
+        for size in (0, 1, 100, PAGE, PAGE + 100):
+            refuses_new(folder, "disk I/O error", before=limited(size))
+        done = fill(LimitedServer(folder, MOST_BYTES), folder, room, "input or output failed")
+        which = f"files that may not grow after {done} changes"
         with small_disk(room, "4k") as disk:
             if not disk:
-                return "no full disk, since this process can't mount a tmpfs"
-            for _ in range(2):
-                refuses(disk, 0, "database or disk is full")
-                need(os.listdir(disk) == [], f"a store that could not be made leaves {os.listdir(disk)!r}")
+                return f"{which}; no full disk, since this process can't mount a tmpfs"
+            refuses_new(disk, "database or disk is full")
         with small_disk(room, "1m") as disk:
-            with stored(disk, 1) as server:
-                working = Working(owners, lambda it: (server, 0), 0, may_end=True)
-                working.wait()
-                need(server.process.wait(PATIENCE) == 1, f"a server whose disk is full ends with status {server.process.returncode}")
-                log = server.stop()
-                lines = [it for it in log.splitlines(keepends=True) if b": session ended: desk down; " not in it]
-                wanted = new_lines(disk, 1) + b"queue_sites: site 0: store failed: disk full\n"
-                need(b"".join(lines) == wanted, f"a server whose disk is full logs {log!r}")
-            shutil.copytree(disk, f"{room}/larger")
-        need(sum(it.done for it in owners) > 20, "the disk was full at once")
-        with stored(f"{room}/larger", 1) as server:
-            check_shown(server, owners)
-    return f"a disk that was full after {sum(it.done for it in owners)} changes"
+            done = fill(stored(disk, 1), disk, room, "disk full")
+    return f"{which}, and a disk that was full after {done}"
+
+
+def rest(server, seconds=PAUSE):
+    """Waits until a server has ended, or has saved what nobody waits for and put a base that is due."""
+    with contextlib.suppress(subprocess.TimeoutExpired):
+        server.process.wait(seconds)
+
+
+def ask_for_changes(server):
+    """A client of a site asks for all changes, one after another, until the server ends. Returns when it has asked for each, in nanoseconds, and
+    how many were answered."""
+    asked, answered = [], 0
+    with contextlib.suppress(OSError, Failed), server.logged_in() as client:
+        for number, (action, fields) in enumerate(CHANGES, 1):
+            if number == len(CHANGES):
+                rest(server)
+            asked.append(time.monotonic_ns())
+            reply = client.ask(action, Queue="sales", **fields)
+            # A wrong reply counts also where the server may end.
+            assert reply.startswith(b"Response: Success\r\n"), f"{action} is answered {reply!r}"
+            answered += 1
+    return asked, answered
+
+
+def reports_of(folder):
+    """The reports of a site that goes on over a store, before all changes and after each."""
+    with stored(folder, 1) as server, server.logged_in() as client:
+        reports = [client.ask("QueueStatus")]
+        for action, fields in CHANGES:
+            client.succeed(action, Queue="sales", **fields)
+            reports.append(client.ask("QueueStatus"))
+        rest(server, 1)
+    return reports
+
+
+def goes_on(folder, reports, may_be_blank):
+    """A server starts with the files that one has left whose write went wrong, shows one of these reports, and takes another change. A first start
+    that was cut off may have left a store without a table."""
+    for can_be_blank in (may_be_blank, False):
+        with stored(folder, 1) as server:
+            if server.printed != server.lines():
+                errors = server.stop()
+                need(can_be_blank, f"a server that starts again says {errors!r}")
+                remove_blank(folder, errors)
+                continue
+            found = shown(server)
+            need(found in reports, f"a server that starts again shows {found!r}, and not {reports!r}")
+            with server.logged_in() as client:
+                client.succeed("QueueAdd", Queue="sales", Interface="SIP/later")
+        rows = rows_of(folder, 0)
+        check_rows(rows)
+        check_frames(rows, 0)
+        need([it[2] == BASE for it in rows] == [True, *[False] * (len(rows) - 1)], "a store doesn't have one base, in front")
+        return
+
+
+class WritesOfStore:
+    """Runs of a server of one site over copies of a store, or without one, in each of which a write to the store's files goes wrong: by a library
+    of tools/ that is loaded before the server. The copies lie in `room`."""
+
+    def __init__(self, room, library, name, folder):
+        self.room, self.library, self.name, self.folder = room, library, name, folder
+        self.is_new, self.right = os.listdir(folder) == [], copied(folder, room, f"{name}-right")
+        self.reports = reports_of(self.right)
+        self.calls, how = self.run("REFUSED_WRITE", 0)
+        need(how == "served", f"{name}: a server has {how}")
+
+    def run(self, what, number, lost=0):
+        """Runs the server until all changes are asked for, or it has ended at the write of this number, and starts it again. Returns how many
+        writes there were, and how the server has ended: `served` if it hasn't, `ended` if that was before it listened, else `failed`."""
+        ran = f"{self.name}-{what}-{number}-{lost}"
+        folder, counted = copied(self.folder, self.room, ran), f"{self.room}/{ran}.writes"
+        server = stored(folder, 1, more={"LD_PRELOAD": self.library, what: str(number), "LOST_WRITES": str(lost), "WRITES_FILE": counted})
+        try:
+            has_listened = server.wait_until_it_listens()
+            asked, answered = ask_for_changes(server) if has_listened else ([], 0)
+            rest(server)
+            calls, failed = struct.unpack("QQ", read(counted))
+            if failed:
+                rest(server, PATIENCE)
+        finally:
+            log = server.stop()
+        # A save may come as late as the signal that ends the server.
+        is_late = struct.unpack("QQ", read(counted))[1] != failed
+        how = "served" if not failed else "failed" if has_listened else "ended"
+        is_killed, status = what == "KILLED_WRITE", server.process.returncode
+        try:
+            if not is_late:
+                self.check_end(folder, how, is_killed, status, log)
+            need(how != "served" or answered == len(CHANGES), f"{answered} changes are answered")
+            later = [it for it in asked[:answered] if it > failed > 0]
+            need(not later, f"{len(later)} changes are answered that were asked for later")
+            goes_on(folder, [self.reports[answered], self.reports[len(asked)]], may_be_blank=how == "ended" and self.is_new and is_killed)
+        except Failed as why:
+            raise Failed(f"{ran} of {calls}, where the server has {how}: {why}") from None
+        shutil.rmtree(folder)
+        return calls, how
+
+    def check_end(self, folder, how, is_killed, status, log):
+        """Needs the status and the log of the server, and that it leaves no files of a store that it could not make."""
+        new = new_lines(folder, 1) if self.is_new else b""
+        fault = b"queue_sites: site 0: store failed: input or output failed\n"
+        logs = {"served": [new], "failed": [new + fault], "ended": refusals_of(folder, 0, "cannot open", "disk I/O error")}[how]
+        if is_killed and how != "served":
+            logs = [b"", new]
+        lines = b"".join(it for it in log.splitlines(keepends=True) if b": session ended: desk down; " not in it)
+        need(lines in logs, f"it logs {log!r}")
+        wanted = -signal.SIGTERM if how == "served" else -signal.SIGKILL if is_killed else 1
+        need(status == wanted, f"its status is {status}")
+        left = os.listdir(folder) if how == "ended" and self.is_new and not is_killed else []
+        need(not left, f"it leaves {left!r} of a store that it could not make")
+
+    def run_each(self, threads, what, tried):
+        """Runs the server for each of these writes and its value of LOST_WRITES. Returns how often it has ended before it listened, and how often
+        later."""
+        ends = [how for _, how in threads.map(lambda it: self.run(what, *it), tried)]
+        # What nobody waits for is saved in one commit or in two, so that a run may have some writes less.
+        need(ends.count("served") * 2 < len(ends), f"{self.name}, {what}: {ends.count('served')} of {len(ends)} runs have served")
+        return ends.count("ended"), ends.count("failed")
+
+
+def rows_beside_base(folder):
+    """How many rows the store of a site has beside its base; none where there is no store."""
+    return len(rows_of(folder, 0)) - 1 if os.listdir(folder) else 0
+
+
+def frames_of_log(folder):
+    """How many frames the log of a site's store has, which are those with the salts of the log's header; none where there is no store."""
+    log = read(f"{folder}/site-0.db-wal") if os.listdir(folder) else b""
+    return next((it for it in range(len(log)) if log[LOG_HEADER + it * FRAME + 8:][:8] != log[16:24]), 0)
+
+
+def grown(folder, size, wanted, share, clients, at_once):
+    """Lets the store of a site in a new folder grow until its size is the one that is wanted, or a little more. At each start clients ask for this
+    share of what is missing as changes, each for no more at once than `at_once`."""
+    os.mkdir(folder)
+    while (missing := wanted - size(folder)) > 0:
+        with stored(folder, 1, clients) as server, contextlib.ExitStack() as sessions:
+            them = [sessions.enter_context(server.logged_in()) for _ in range(clients)]
+            them[0].ask("QueueAdd", Queue="sales", Interface="SIP/0")
+            changes = max(1, int(missing * share))
+            while changes > 0:
+                asked = []
+                for it in them:
+                    asked.append(min(changes, at_once))
+                    it.send(asked[-1] * b"Action: QueuePause\nInterface: SIP/0\nPaused: 1\n\n")
+                    changes -= asked[-1]
+                replies = [it.until(b"\r\n\r\n") for it, number in zip(them, asked) for _ in range(number)]
+                need(all(it.startswith(b"Response: Success\r\n") for it in replies), "a change is refused")
+    return folder
+
+
+@contextlib.contextmanager
+def writes_of_stores():
+    """What runs a server whose writes go wrong: without a store, with one that gets a new base, and with one whose log is copied into its file.
+    Nothing where there is no C compiler."""
+    with tempfile.TemporaryDirectory() as room:
+        library = compiled_refusal(room, "refuse_write")
+        if library is None:
+            yield []
+            return
+        os.mkdir(empty := f"{room}/empty")
+        # A start adds up to two rows, and a base is due behind the changes.
+        many = grown(f"{room}/rows", rows_beside_base, MOST_ROWS - 6, 0.9, 16, 50)
+        long = grown(f"{room}/frames", frames_of_log, LONG_LOG - 10, 0.2, 1, 1)
+        runs = [WritesOfStore(room, library, name, folder) for name, folder in (("new-store", empty), ("new-base", many), ("long-log", long))]
+        need(rows_of(runs[1].right, 0)[0][0] > MOST_ROWS, "a store that should get a new base doesn't")
+        need(read(f"{long}/site-0.db") != read(f"{runs[2].right}/site-0.db"), "a log that should be copied isn't")
+        yield runs
+
+
+def writes_that_fail(step=3):
+    """With each write to a store's files failing in turn, or each `step`-th, the server ends with status 1 and a line that says why, and answers no
+    change that was asked for later. It is also killed at each, or at others, and its files may lose what they haven't synced then. It starts again,
+    and shows what was answered, and maybe the one change that got no reply."""
+    with writes_of_stores() as runs, concurrent.futures.ThreadPoolExecutor(4) as threads:
+        if not runs:
+            return NO_COMPILER
+        parts = []
+        for it in runs:
+            writes = range(1, it.calls + 2)
+            ended, failed = it.run_each(threads, "REFUSED_WRITE", [(number, 0) for number in writes[::step]])
+            losses = lambda number: range(4) if step == 1 else [number // step % 4]
+            killed = sum(it.run_each(threads, "KILLED_WRITE", [(number, lost) for number in writes[1 % step::step] for lost in losses(number)]))
+            parts.append(f"{it.name}: of {it.calls} {ended} ended a start, {failed} the server, and it was killed {killed} times")
+    return f"writes that fail: {'; '.join(parts)}"
 
 
 def some_of(allocations, number):
@@ -631,21 +895,58 @@ def remove_blank(folder, errors):
         os.remove(f"{folder}/{name}")
 
 
-def starts_again(folder, is_served):
-    """A server one of whose allocations was refused starts again with the files that it leaves, and has what it has answered. Where it has not
-    served yet it may leave a store without a table."""
-    for _ in range(1 if is_served else 3):
+def add_one(server):
+    """Adds SIP/1 in a session. Returns whether a reply says that it is there, and why the session doesn't come to its end; nothing where it does."""
+    is_there = False
+    try:
+        with server.logged_in() as it:
+            reply = it.ask("QueueAdd", Queue="sales", Interface="SIP/1")
+            is_there = reply.startswith(b"Response: Success\r\n") or b": Already there\r\n" in reply
+            it.ask("QueueStatus")
+            it.leave()
+    except (OSError, Failed) as why:
+        return is_there, repr(why)
+    return is_there, ""
+
+
+def run_adding(more, folder):
+    """Runs a server of two sites with stores, with this environment, until a session or the server has ended. Returns the server, its status,
+    none if it hasn't ended, and whether a reply has said that SIP/1 is there."""
+    server, is_added = stored(folder, more=more), False
+    try:
+        if not server.wait_until_it_listens():
+            server.process.wait(PATIENCE)
+        ends = time.monotonic() + PATIENCE
+        while True:
+            is_there, why = add_one(server)
+            is_added = is_added or is_there
+            # A client that connects at the moment in which the server ends may never learn that, so whether the server has ended is checked
+            # after it.
+            if not why or server.process.poll() is not None:
+                return server, server.process.poll(), is_added
+            need(time.monotonic() < ends, f"a server with {more} neither ends nor serves a client: {why}")
+            time.sleep(0.02)
+    except BaseException:
+        server.stop()
+        raise
+
+
+def starts_again(folder, is_added=False, has_served=False):
+    """A server of two sites that has ended starts again with the files that it leaves, and has SIP/1 if a reply has said so. Where it has not served
+    yet it may leave stores without a table: returns how many."""
+    has_served = has_served or is_added
+    for blank in range(1 if has_served else 3):
         with stored(folder) as server:
             if server.printed != server.lines():
-                need(not is_served, "a server that has served doesn't start again")
+                need(not has_served, "a server that has served doesn't start again")
                 remove_blank(folder, server.stop())
                 continue
-            for site in range(2) if is_served else []:
+            for site in range(2) if is_added else []:
                 until_shown(server, site, b"Location: SIP/1\r\n", CAUGHT_UP)
             shown(server)
             server.stop()
-            return
-    need(False, "a server doesn't start with the files that it left")
+            return blank
+    raise Failed("a server doesn't start with the files that it left")
 
 
 def end_refused(room, library, number):
@@ -654,7 +955,7 @@ def end_refused(room, library, number):
     os.mkdir(folder := f"{room}/stores-{number}")
     counted = f"{room}/allocations-{number}"
     more = {"LD_PRELOAD": library, "REFUSED_ALLOCATION": str(number), "ALLOCATIONS_FILE": counted}
-    server, status = run_refused(more, ["--store", folder])
+    server, status, is_added = run_adding(more, folder)
     log = server.stop()
     texts = [b"queue_sites: out of memory\n", b"queue_sites: no thread\n", *refusals_of(folder, 0, "out of memory"), *refusals_of(folder, 1, "out of memory")]
     lines = [it for it in log.splitlines(keepends=True) if it not in new_lines(folder, 2).splitlines(keepends=True)]
@@ -666,8 +967,9 @@ def end_refused(room, library, number):
         "ended": status == 1 and len(others) == 1 and others[0] in texts,
     }
     need(is_right[how], f"where allocation {number} is refused a server has {how}, its status is {status}, and it logs {log!r}")
+    need(is_added or how != "served", f"where allocation {number} is refused a server that serves on doesn't add a member")
     try:
-        starts_again(folder, how == "served")
+        starts_again(folder, is_added)
     except Failed as why:
         raise Failed(f"where allocation {number} was refused, and the server has {how}: {why}") from None
     shutil.rmtree(folder)
@@ -684,7 +986,7 @@ def refused_allocations(number=SOME_ALLOCATIONS):
             return NO_COMPILER
         allocations, _ = end_refused(room, library, 0)
         # Most are made while stores are opened; the last ones while clients are served.
-        last = range(max(1, allocations - 300), allocations + 1, 20)
+        last = range(max(1, allocations - 200), allocations + 1, 5)
         tried = sorted({*some_of(allocations, number), *last}) if number else some_of(allocations, None)
         ends = [how for _, how in threads.map(lambda it: end_refused(room, library, it), tried)]
     which = "each" if len(tried) == allocations else f"{len(tried)}"
@@ -692,10 +994,11 @@ def refused_allocations(number=SOME_ALLOCATIONS):
             f"store, the others let it serve on")
 
 
-TESTS = [greets_with_stores, kills, opened_again, new_bases, kept_rows, other_files, files_in_use, damaged_files, damaged_logs, rolled_back,
-         files_that_may_not_be_written, full_disks, refused_allocations]
+TESTS = [greets_with_stores, kills, killed_first_starts, opened_again, new_bases, kept_rows, other_files, files_in_use, damaged_files, damaged_logs,
+         rolled_back, files_that_may_not_be_written, full_disks, writes_that_fail, refused_allocations]
 # What `all` changes.
-LONGER = {kills: lambda: kills(100), refused_allocations: lambda: refused_allocations(None)}
+LONGER = {kills: lambda: kills(100), killed_first_starts: lambda: killed_first_starts(200), writes_that_fail: lambda: writes_that_fail(1),
+          refused_allocations: lambda: refused_allocations(None)}
 
 
 def run_all(tests=None, longer=False):
