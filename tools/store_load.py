@@ -1,8 +1,8 @@
 """Measures a server with stores, with the clients of tools/load.c on the disk of the system's temporary folder, and prints a table:
 
 - durable adds and removals a second, by 1, 4 and 32 clients of one site; beside it commits of one such row a second by Python's sqlite3 on
-  the same disk, and by Redis with `appendfsync always`, where Debian's redis-server is installed; then all of these with syncs that take a
-  millisecond longer, as on slower disks
+  the same disk, and by Redis with `appendfsync always`, where Debian's redis-server is installed; then all of these with syncs that take
+  longer, as on slower disks
 - how long a status waits while 32 clients add, and while nobody does
 - how long a site takes to listen that has 16,384 members and 10,000 steps
 
@@ -25,7 +25,8 @@ from server_tests import BUILT, PATIENCE, free_ports, need
 from store_tests import COLUMNS, MOST_ROWS, rows_of, stored
 
 SECONDS = 3
-SYNC_DELAY = 1_000  # microseconds
+# How many microseconds longer a sync takes, beside those of a timer, some 55.
+SYNC_DELAYS = [50, 1_000]
 CLIENTS = [1, 4, 32]
 MEMBERS = 16_384
 # The body of a row that adds a member, as long as one of the load.
@@ -151,8 +152,10 @@ def main():
     with tempfile.TemporaryDirectory() as room:
         program = compiled_clients(room)
         changes(program, {})
-        print(f"each sync takes {SYNC_DELAY} us more")
-        changes(program, {"LD_PRELOAD": compiled_refusal(room, "slow_disk"), "SYNC_DELAY": str(SYNC_DELAY)})
+        slow_disk = compiled_refusal(room, "slow_disk")
+        for delay in SYNC_DELAYS:
+            print(f"each sync takes {delay} us more")
+            changes(program, {"LD_PRELOAD": slow_disk, "SYNC_DELAY": str(delay)})
         show("status, nobody adds", 1, lambda: statuses(program, 0))
         show("status, while 32 clients add", 1, lambda: statuses(program, 32))
     rows, listens, answers = start_of_a_full_site()
