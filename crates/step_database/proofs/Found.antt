@@ -1,10 +1,9 @@
 -- The site that is restored of a table.
-use Rattle.std.proofs.Common.{◌≡◌, ◌≢◌, ◌+◌, ◌-◌, ◌^◌, ◌∙◌, min, inl, inr, ℕ, List, [], ◌∷◌, ◌++◌, sym, ap₂, subst}
+use Rattle.std.proofs.Common.{◌≡◌, ◌≢◌, ◌+◌, ◌-◌, ◌^◌, ◌∙◌, min, ℕ, List, [], ◌∷◌, ◌++◌, sym, ap₂, subst}
 use Rattle.std.specs.Prelude.{count_by}
 use Rattle.sqlite.specs.Order.{Row}
 use Rattle.site_journal.specs.declared.step.Step.{Step}
 use Rattle.site_journal.proofs.Leading.{lead_same}
-use Rattle.stored_steps.specs.declared.base.StoredBase.{StoredBase}
 use Rattle.stored_steps.specs.declared.restored_site.RestoredSite.{RestoredSite}
 use Rattle.stored_steps.specs.Bases.{IsReadBase}
 use Rattle.stored_steps.specs.Restoring.{IsRestoredSite}

@@ -1,5 +1,5 @@
 -- Sites that say the same, and do what the same rows say, say the same again.
-use Rattle.std.proofs.Common.{◌≡◌, ◌≢◌, ◌⊎◌, ◌++◌, inl, inr, ℕ, List, [], ◌∷◌, Option, Some, None, Result, Ok, Err, refl, sym, ap, subst, ◌∙◌}
+use Rattle.std.proofs.Common.{◌≡◌, ◌≢◌, ◌++◌, inl, inr, ℕ, List, [], ◌∷◌, Option, Some, None, Result, Err, refl, sym, ap, subst, ◌∙◌}
 use Rattle.std.specs.List.{All, cons_option}
 use Rattle.std.proofs.lemmas.List.Elements.{All-head, All-tail}
 use Rattle.delta_codec.proofs.FrameLaws.{one_frame}
@@ -10,9 +10,8 @@ use Rattle.replica.specs.Changes.{Makes, Meaning, Refused, change_of}
 use Rattle.replica.specs.Commands.{Follows, IsDone}
 use Rattle.replica.specs.Site.{IsSameSite, SiteState, meaning_at}
 use Rattle.replica.proofs.SameDeeds.{cut_same, follows_same, take_same, whole_same}
-use Rattle.replica.proofs.SameSites.{site_itself, site_through, site_turned, unchanged_site}
+use Rattle.replica.proofs.SameSites.{site_through, site_turned, unchanged_site}
 use Rattle.replica.proofs.TakenCopies.{taken_same}
-use Rattle.status_report.specs.Answers.{answer_of}
 use Rattle.status_report.specs.declared.asks.Answer.{Answer}
 use Rattle.status_report.specs.declared.asks.Answer.TheVariants as answer
 use Rattle.status_report.specs.declared.asks.Ask.{Ask}
@@ -22,8 +21,7 @@ use Rattle.site_journal.specs.declared.step.StepDeed.{StepDeed}
 use Rattle.site_journal.specs.declared.step.StepDeed.TheVariants as deed
 use Rattle.site_journal.specs.Legal.{IsAsked, IsDeed, IsTook, LeadAll, Leads}
 use Rattle.site_journal.proofs.Leading.{kept_at}
-use Rattle.stored_steps.specs.RowsLead.{RowLeads, RowsLead, StepRowLeads}
-use Rattle.stored_steps.specs.StartRows.{start_row}
+use Rattle.stored_steps.specs.RowsLead.{RowLeads, RowsLead}
 use Rattle.stored_steps.specs.StepRows.{IsWithinLimits, row_of, row_of_ask, row_of_deed, rows_of}
 use Rattle.stored_steps.specs.Stored.{Stored}
 use Rattle.stored_steps.proofs.RowLaws.{no_start, one_step}
