@@ -36,7 +36,7 @@ SHARED = "correct horse battery staple 123"
 EQUAL, HEALED, RELAYED, RESTARTED, REFUSED = 2, 5, 5, 3, 1
 # How long a site waits before it dials again where nobody listens, at most; how long a peer may be silent; and within what time one that
 # acknowledges nothing is given up by a site that looks for that about once a second.
-PAUSE, SILENT, GIVEN_UP = 2.25, 4, 5.5
+PAUSE, SILENT, GIVEN_UP = 2.25, 4, 6
 # How many bytes a second a slow line carries; how many are under way at most, and wait for a peer; and how many seconds news may take beside
 # those that carry them.
 SLOW, WINDOW, BOX, NEWS = 30_000, 262_144, 1_048_576, 6
@@ -1174,7 +1174,7 @@ def a_peer_that_reads_nothing(asks=30_000, number=200):
                         unread.say()
             grown, frames = site.memory() - before, asks * pauses.frame
             # A busy machine holds up some asks.
-            need(pauses.late < 6 and pauses.slowest < 0.5,
+            need(pauses.late < asks // 1_000 and pauses.slowest < 0.5,
                  f"beside a peer that reads nothing {pauses.late} asks take more than 50 ms, and one {pauses.slowest:.3f} seconds")
             need(grown < frames // 2, f"for a peer that reads nothing a site keeps {grown:,} bytes of {frames:,}")
             unread.read_until(pauses.reason().encode())
