@@ -81,14 +81,14 @@ def free_ports(sites):
 
 class Server:
     """A running server of `sites` sites. It is ended when the context is left. If its options name a file of the secret, the command
-    line has no secret."""
+    line has no secret. `prepare` runs in its process before the program."""
 
-    def __init__(self, sites, queues=("sales",), user=USER, secret=SECRET, options=(), more=None, out=None, address="127.0.0.1"):
+    def __init__(self, sites, queues=("sales",), user=USER, secret=SECRET, options=(), more=None, out=None, address="127.0.0.1", prepare=None):
         self.sites, self.port, self.user, self.secret, self.address = sites, free_ports(sites), user, secret, address
         login = [user] if "--secret-file" in options else [user, secret]
         words = [BUILT, "serve", *options, str(sites), str(self.port), *login, *queues]
         how = {"stdin": subprocess.DEVNULL, "stdout": out or subprocess.PIPE, "stderr": subprocess.PIPE}
-        self.process = subprocess.Popen(words, env={**os.environ, **(more or {})}, **how)
+        self.process = subprocess.Popen(words, env={**os.environ, **(more or {})}, preexec_fn=prepare, **how)
         self.printed, self.logged = b"", b""
 
     def __enter__(self):

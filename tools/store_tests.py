@@ -164,9 +164,9 @@ def check_shown(server, owners):
     need(len({shown(server, site) for site in range(server.sites)}) == 1, "the sites show the same members otherwise")
 
 
-def stored(folder, sites=2, places=4, keeps=False, more=None):
+def stored(folder, sites=2, places=4, keeps=False, **how):
     """A server whose sites have stores."""
-    return Server(sites, options=["--store", folder, "--sessions", str(places), *(["--keep"] if keeps else [])], more=more)
+    return Server(sites, options=["--store", folder, "--sessions", str(places), *(["--keep"] if keeps else [])], **how)
 
 
 def files_of(folder, site):
@@ -640,17 +640,6 @@ def limited(size):
     return limit
 
 
-class LimitedServer(Server):
-    """A running server of one site with a store, whose files may not grow past a size."""
-
-    def __init__(self, folder, size):
-        self.sites, self.port, self.user, self.secret, self.address = 1, free_ports(1), USER, SECRET, "127.0.0.1"
-        words = [BUILT, "serve", "--store", folder, "1", str(self.port), USER, SECRET, "sales"]
-        how = {"stdin": subprocess.DEVNULL, "stdout": subprocess.PIPE, "stderr": subprocess.PIPE}
-        self.process = subprocess.Popen(words, preexec_fn=limited(size), **how)
-        self.printed, self.logged = b"", b""
-
-
 def fill(server, folder, room, fault, clients=4):
     """Clients change members of a server that has begun with no store, until its disk is full: then it ends with status 1, and says why. What it
     has answered is in its files, of which there is a copy on a larger disk. Returns how many changes that were."""
@@ -683,7 +672,7 @@ def full_disks():
         os.mkdir(folder := f"{room}/limited")
         for size in (0, 1, 100, PAGE, PAGE + 100):
             refuses_new(folder, "disk I/O error", before=limited(size))
-        done = fill(LimitedServer(folder, MOST_BYTES), folder, room, "input or output failed")
+        done = fill(stored(folder, 1, prepare=limited(MOST_BYTES)), folder, room, "input or output failed")
         which = f"files that may not grow after {done} changes"
         with small_disk(room, "4k") as disk:
             if not disk:
