@@ -5,7 +5,6 @@ are no stores of its sites, fills its disk, and refuses its allocations and its 
 
 `all`: 100 kills, 200 of a first start, every allocation and every write, where `./test` has 20 kills and some of the others. NAME: these
 tests alone."""
-import collections
 import concurrent.futures
 import contextlib
 import os
