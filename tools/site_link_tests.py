@@ -895,6 +895,28 @@ def a_late_item(seconds=60):
     return f"an item that isn't whole after {taken:.0f} seconds"
 
 
+def a_long_whole(number=16_000, seconds=60):
+    """A whole that a slow line carries in more than 60 seconds is taken, and its link stays up."""
+    names = [f"SIP/{it:070}" for it in range(number)]
+    with tempfile.TemporaryDirectory() as room, Mesh(room, 2) as mesh:
+        mesh.until_linked()
+        mesh.stop()
+        mesh.sites[0].add(*names)
+        for it in mesh.proxies.values():
+            it.rate = SLOW
+        started, carried = time.monotonic(), mesh.proxies[0, 1].carried
+        mesh.heal()
+        mesh.sites[1].logs("link from site 0 at ADDRESS: up", HEALED)
+        mesh.sites[1].forget_log()
+        while mesh.proxies[0, 1].carried - carried < 100 * number:
+            need(time.monotonic() - started < 2 * seconds, "a long whole isn't carried")
+            time.sleep(0.1)
+        taken = mesh.until_equal(number, 2 * seconds, started)
+        need(taken > seconds, f"a whole of {mesh.proxies[0, 1].carried - carried:,} bytes is there after {taken:.0f} s")
+        mesh.sites[1].logs_only()
+    return f"a whole that a line of {SLOW:,} bytes a second carries in {taken:.0f} s"
+
+
 def ends_by_itself(site, reason, within=REFUSED, seconds=5, asks=True):
     """A site says in time why it ends, and ends with status 1. If it `asks`, a client asks for a change at once, and is not answered: the
     site makes no change under a number that it must not use. Returns how long it took to say why and to end, since it listened, or since it was
@@ -1419,7 +1441,7 @@ TESTS = [words_of_a_site, stores_of_sites, clients_of_a_site, addresses, three_s
          a_start_that_waits, silent_connections, silent_peers, a_peer_that_reads_nothing, refused_allocations]
 # What `all` changes, and what it does besides.
 LONGER = {refused_allocations: all_refused_allocations}
-MORE = [a_late_item]
+MORE = [a_late_item, a_long_whole]
 
 
 def run_all(tests=None, longer=False):
