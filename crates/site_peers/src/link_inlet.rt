@@ -11,7 +11,7 @@ pub enum AcknowledgeFault {
     /// What was read could not be acknowledged.
     #[error("not acknowledged: {0}")]
     NotSent(SendFault),
-    /// An item isn't whole 60 seconds after it was begun.
+    /// An item isn't whole 60 seconds after it was begun, and fewer than 8,000 bytes of it came each second.
     #[error("an item takes more than 60 s")]
     Late,
     /// The clock could not be read.

@@ -19,7 +19,7 @@ pub enum OutletFault {
     /// The connection failed, or the peer has closed it.
     #[error("closed there")]
     Closed,
-    /// The peer has read nothing, or acknowledged nothing, for 4 seconds.
+    /// The peer has read nothing for 4 seconds, or acknowledged none of four beats.
     #[error("no reply for 4 s")]
     Silent,
     /// The peer has refused a frame.
