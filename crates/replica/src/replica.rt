@@ -1,4 +1,4 @@
-ghost use Rattle.std.specs.Prelude.{◌≡◌, ◌≤◌, IfOk, option_map};
+ghost use Rattle.std.specs.Prelude.{◌≡◌, ◌↔◌, ◌≤◌, IfOk, IsTrue, option_map};
 ghost use Rattle.dots.specs.declared.calls.Calls.TheVariants.{Completed, Abandoned};
 ghost use Rattle.operations.specs.Counts.{queue_total};
 ghost use Rattle.operations.specs.Rows.{dot_view, row_of, rows_of as rows_read};
@@ -6,6 +6,7 @@ ghost use Rattle.operations.specs.Views.{row_view};
 ghost use Rattle.member_orset.specs.Members.{dot_view_of};
 ghost use Rattle.delta.specs.DeltaStates.{IsEmpty};
 ghost use Rattle.replica.specs.Changing.{IsChangeOf};
+ghost use Rattle.replica.specs.Deeds.{IsNew};
 ghost use Rattle.replica.specs.Keeping.{IsKept};
 ghost use Rattle.replica.specs.Making.{IsMade};
 ghost use Rattle.replica.specs.Queues.{AreQueues};
@@ -137,6 +138,17 @@ impl Replica {
             × ((result.1 ≤ MOST_COUNT) × (result.2 ≤ MOST_COUNT)) }
     {
         (self.count, self.time, self.frames)
+    }
+
+    /// Whether the replica is that of a new site: it knows nothing, and has used no number.
+    pub fn is_new(&self) -> bool
+        ensures { IsTrue result ↔ IsNew self.now }
+    {
+        self.state.is_empty()
+            && self.pending.is_empty()
+            && self.count == 0
+            && self.time == 0
+            && self.frames == 0
     }
 
     /// The row of this member. `None` if it isn't in its queue.

@@ -2,7 +2,6 @@
 ghost use Rattle.std.specs.Prelude.{◌≡◌, ◌≢◌, ◌↔◌, ◌<◌, ◌≤◌, ℕ, [], List, Err, IfNone, IfOk, IfSome, IsOkAnd};
 ghost use Rattle.std.specs.Prelude.{IsTrue, None, Some, length, slice_get};
 ghost use Rattle.site_journal.specs.Journals.{IsJournal, JournalState};
-ghost use Rattle.replica.specs.Deeds.{IsNew};
 ghost use Rattle.sites_world.specs.declared.event.Event.{Event};
 ghost use Rattle.site_audit.specs.Ending.{HasAllSteps, IsLeastLeft};
 ghost use Rattle.site_audit.specs.Replays.{CannotGoOn, IsReplay};
@@ -11,7 +10,6 @@ ghost use Rattle.site_audit.specs.Runs.{AreSites, IsFirstStale, IsFromNew, IsRun
 use crate::AuditFault;
 use crate::explanation::Explanation;
 use crate::replay::{Replay, search};
-use replica::Replica;
 use site_journal::Journaled;
 use sites_world::Event;
 use std::alloc::Global;
@@ -35,24 +33,12 @@ fn are_sites(journals: &[Journaled]) -> bool
     true
 }
 
-// Whether a replica is new: it knows nothing, and has used no number.
-fn is_new(replica: &Replica) -> bool
-    ensures { IsTrue result ↔ IsNew replica.now }
-{
-    let (count, time, frames) = replica.last();
-    replica.state().is_empty()
-        && replica.pending().is_empty()
-        && count == 0
-        && time == 0
-        && frames == 0
-}
-
 // Whether a journal is fresh: no step was dropped, and it began from a new replica. So it has all steps of its site.
 fn is_from_new(journal: &Journaled) -> bool
     ensures whole { IsTrue result ↔ IsFromNew journal.now }
     ensures journal { IsJournal journal.now }
 {
-    journal.start() == 0 && is_new(journal.base())
+    journal.start() == 0 && journal.base().is_new()
 }
 
 // The first site whose journal isn't fresh, if there is one.

@@ -2,7 +2,6 @@
 ghost use Rattle.std.specs.Prelude.{◌≡◌, ◌≢◌, ◌↔◌, ◌⊎◌, ◌+◌, ◌++◌, ◌∷◌, [], List};
 ghost use Rattle.std.specs.Prelude.{IfErr, IfOk, IsTrue, OnOk};
 ghost use Rattle.std.specs.Prelude.{false, length};
-ghost use Rattle.replica.specs.Deeds.{IsNew};
 ghost use Rattle.replica.specs.Site.{IsSameSite};
 ghost use Rattle.site_journal.specs.Journals.{HasAdded, IsFull, IsNewJournal};
 ghost use Rattle.site_journal.specs.declared.journaled.TheConstants.{MOST_STEPS};
@@ -26,18 +25,6 @@ use std::alloc::Global;
 use stored_steps::{
     BaseFault, RowFault, RowKind, StoredBase, StoredRow, base_heading, base_of_row, step_of_row,
 };
-
-// Whether a replica is new: it knows nothing, and has used no number.
-fn is_new(replica: &Replica) -> bool
-    ensures { IsTrue result ↔ IsNew replica.now }
-{
-    let (count, time, frames) = replica.last();
-    replica.state().is_empty()
-        && replica.pending().is_empty()
-        && count == 0
-        && time == 0
-        && frames == 0
-}
 
 // Whether two replicas say the same.
 fn is_same(one: &Replica, other: &Replica) -> bool
@@ -112,7 +99,7 @@ fn begin(alloc: Global, first: u64, row: &StoredRow) -> Result<Walk, JournalFaul
         drop(replica);
         return Err(JournalFault::NotFromStart);
     }
-    if !is_new(&replica) {
+    if !replica.is_new() {
         drop(replica);
         return Err(JournalFault::NotFromStart);
     }
