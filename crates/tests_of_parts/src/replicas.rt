@@ -226,6 +226,7 @@ fn assert_list(rt: &impl Abort, replica: &Replica) {
 
 // Asserts that a site knows nothing and has written and made nothing.
 fn assert_new(rt: &impl Abort, replica: &Replica) {
+    assert!(*rt; replica.is_new());
     assert!(*rt; replica.state().is_empty());
     assert!(*rt; replica.pending().is_empty());
     assert!(*rt; replica.last() == (0, 0, 0));
@@ -240,11 +241,13 @@ fn assert_new(rt: &impl Abort, replica: &Replica) {
 fn a_new_replica_knows_nothing(rt: HostRuntime) {
     let list = list(&rt, rt.alloc(), &mut "sales support".split_whitespace());
     let replica = Replica::new(rt.alloc(), site(&rt, "5"), list);
-    let copy = replica.copy().expect(&rt, "memory");
+    let mut copy = replica.copy().expect(&rt, "memory");
     assert_list(&rt, &replica);
     assert_new(&rt, &replica);
     assert_list(&rt, &copy);
     assert_new(&rt, &copy);
+    assert!(rt; copy.use_frame_number() == Ok(1));
+    assert!(rt; !copy.is_new());
     drop(replica);
     drop(copy);
 }
