@@ -1,6 +1,7 @@
-/* Lets one call fail by EIO that writes or syncs a file of a store, whose path ends in `.db` or `.db-wal`, of a program that it is loaded
-   before (LD_PRELOAD); or kills the program at that call, before it is made. Where a sync fails the file loses what was written to it since
-   its last sync, as it may on a disk that fails. Where the program is killed, files may lose that too, as where the power fails.
+/* Lets one call fail by EIO that writes or syncs a file of a store, whose name ends in `.db` or has `.db-new-`, or its log (`-wal`), of a
+   program that it is loaded before (LD_PRELOAD); or kills the program at that call, before it is made. Where a sync fails the file loses what
+   was written to it since its last sync, as it may on a disk that fails. Where the program is killed, files may lose that too, as where the
+   power fails.
 
    REFUSED_WRITE is the number of the call that fails, counted from 1, and KILLED_WRITE that of the call at which the program is killed; 0 is
    none. LOST_WRITES says which files then lose what they haven't synced: 0 none, 1 logs, 2 the others, 3 all. WRITES_FILE names a file of
@@ -23,6 +24,7 @@
 #include <unistd.h>
 
 enum { NO_STORE, LOG, OTHER };
+enum { MOST_FILES = 16 };
 
 typedef struct {
     _Atomic uint64_t calls, time;
@@ -41,6 +43,7 @@ typedef struct Write {
 static Counts uncounted, *counts = &uncounted;
 static uint64_t refused, killed, lost;
 static Write *unsynced;
+static struct { ino_t node; int file; } kept[MOST_FILES];
 static pthread_mutex_t lock = PTHREAD_MUTEX_INITIALIZER;
 
 static uint64_t number_of(const char *name) {
@@ -74,7 +77,8 @@ static int kind_of(int file) {
     ssize_t length = readlink(link, path, sizeof path - 1);
     if (length < 0) return NO_STORE;
     path[length] = 0;
-    return ends_in(path, ".db-wal") ? LOG : ends_in(path, ".db") ? OTHER : NO_STORE;
+    if (!ends_in(path, ".db") && !ends_in(path, ".db-wal") && !strstr(path, ".db-new-")) return NO_STORE;
+    return ends_in(path, "-wal") ? LOG : OTHER;
 }
 
 static struct stat state_of(int file) {
@@ -93,6 +97,21 @@ static int next_ftruncate(int file, off64_t size) {
     return next(file, size);
 }
 
+/* Opens a file of this node once more, if it hasn't yet: what wasn't synced is undone by that, also after the program has closed the file. */
+static int kept_file(int file, ino_t node) {
+    for (int at = 0; at < MOST_FILES; at++) {
+        if (!kept[at].node) {
+            char link[64];
+            snprintf(link, sizeof link, "/proc/self/fd/%d", file);
+            kept[at].file = open(link, O_RDWR | O_CLOEXEC);
+            if (kept[at].file < 0) abort();
+            kept[at].node = node;
+        }
+        if (kept[at].node == node) return kept[at].file;
+    }
+    abort();
+}
+
 /* Notes that a call is about to change some bytes of a file, or its length. */
 static void note(int file, off64_t place, size_t length) {
     int kind = kind_of(file);
@@ -100,11 +119,12 @@ static void note(int file, off64_t place, size_t length) {
     struct stat state = state_of(file);
     Write *it = malloc(sizeof *it + length);
     if (!it) abort();
-    *it = (Write){0, file, kind, state.st_ino, place, state.st_size, 0};
+    *it = (Write){0, 0, kind, state.st_ino, place, state.st_size, 0};
     ssize_t held = pread64(file, it->old, length, place);
     if (held < 0) abort();
     it->length = (size_t)held;
     pthread_mutex_lock(&lock);
+    it->file = kept_file(file, state.st_ino);
     it->before = unsynced;
     unsynced = it;
     pthread_mutex_unlock(&lock);

@@ -44,6 +44,8 @@ WORDS = {
 }
 # The bytes of a page of a store.
 PAGE = 4_096
+# The files of two sites.
+FILES = ["site-0.db", "site-0.db-wal", "site-1.db", "site-1.db-wal"]
 # The user and group that may write nothing.
 NOBODY = 65_534
 # Past how many rows since its base a store gets a new one.
@@ -168,9 +170,15 @@ def stored(folder, sites=2, places=4, keeps=False, **how):
     return Server(sites, options=["--store", folder, "--sessions", str(places), *(["--keep"] if keeps else [])], **how)
 
 
+def names_in(folder):
+    """The names of the files in a folder, but those of stores that a first start has not made whole."""
+    return sorted(it for it in os.listdir(folder) if "-new-" not in it)
+
+
 def files_of(folder, site):
-    """The files of a site's store, with what they have."""
-    return {it: read(f"{folder}/{it}") for it in os.listdir(folder) if it.startswith(f"site-{site}.db")}
+    """The files of a site's store, with what they have; a link that leads nowhere isn't one."""
+    names = [it for it in os.listdir(folder) if it.startswith(f"site-{site}.db") and os.path.exists(f"{folder}/{it}")]
+    return {it: read(f"{folder}/{it}") for it in names}
 
 
 @contextlib.contextmanager
@@ -285,9 +293,8 @@ def kills(times=20, clients=32, sites=2):
 
 
 def killed_first_starts(times=20):
-    """A server that is killed at a random moment of its first start starts again: at once, or, where it says that a site has no store and has not
-    listened before, once that site's files are removed."""
-    lot, cut_off, blank = random.Random(6), 0, 0
+    """A server that is killed at a random moment of its first start starts again."""
+    lot, cut_off = random.Random(6), 0
     with tempfile.TemporaryDirectory() as room:
         os.mkdir(folder := f"{room}/whole")
         server, started = stored(folder), time.monotonic()
@@ -298,12 +305,37 @@ def killed_first_starts(times=20):
             server = stored(folder)
             time.sleep(lot.uniform(0, seconds))
             server.process.kill()
-            has_listened = server.wait_until_it_listens()
+            cut_off += not server.wait_until_it_listens()
             server.stop()
-            cut_off += not has_listened
-            blank += starts_again(folder, has_served=has_listened)
+            starts_again(folder)
     need(cut_off > times // 4, f"of {times} servers that are killed {cut_off} haven't listened")
-    return f"{times} first starts killed, {cut_off} before the server listened; {blank} stores without a table were left"
+    return f"{times} first starts killed, {cut_off} before the server listened"
+
+
+def first_starts_at_once(times=10, servers=3):
+    """Of servers that make the same stores at once at most one serves, the others say why they don't, and later one goes on. No file of another
+    name is touched, and none is left."""
+    served, mine = 0, "site-1.db-new-1"
+    with tempfile.TemporaryDirectory() as room:
+        for turn in range(times):
+            os.mkdir(folder := f"{room}/stores-{turn}")
+            put(folder, mine, b"This is no store.\n")
+            with contextlib.ExitStack() as ends:
+                begun = [stored(folder) for _ in range(servers)]
+                serving = [it for it in begun if ends.enter_context(it).printed == it.lines()]
+                need(len(serving) <= 1, f"{len(serving)} servers serve the same stores")
+                is_added = any([add_one(it)[0] for it in serving])
+                need(is_added == bool(serving), "a server that serves adds no member")
+                for it in begun:
+                    log, texts = it.stop(), [text for site in range(2) for text in refusals_of(folder, site, "in use")]
+                    lines = [line for line in log.splitlines(keepends=True) if line not in new_lines(folder, 2).splitlines(keepends=True)]
+                    need(lines == [] if it in serving else len(lines) == 1 and lines[0] in texts, f"of {servers} first starts at once one says {log!r}")
+            served += is_added
+            need(read(f"{folder}/{mine}") == b"This is no store.\n", "a file of another name was changed")
+            need(sorted(os.listdir(folder)) == sorted([*FILES, mine]), f"the files are {os.listdir(folder)!r}")
+            starts_again(folder, is_added)
+    need(served > times // 2, f"of {times} times {servers} servers one has served {served} times")
+    return f"{times} times {servers} first starts at once"
 
 
 def opened_again(times=30):
@@ -455,11 +487,14 @@ def other_files():
         refuses(swapped, 0, "base: another site")
         refuses(put(f"{room}/text", "site-0.db", b"This is no store.\n" * 1_000), 0, "no store")
         refuses(put(f"{room}/empty", "site-0.db", b""), 0, "no store")
-        # Without its log a file has not even a table, and a log without its file is no store either: neither is made anew.
-        for name, content in files_of(folder, 0).items():
-            half = put(f"{room}/only-{name}", name, content)
-            refuses(half, 0, "no store")
-            need(name == "site-0.db" or [*files_of(half, 0)] == [name], f"a store of which {name} alone is left was made anew")
+        # A log without its file is no store, and a link that leads nowhere is none either: neither is made anew.
+        half = put(f"{room}/log", "site-0.db-wal", files_of(folder, 0)["site-0.db-wal"])
+        refuses(half, 0, "no store")
+        need([*files_of(half, 0)] == ["site-0.db-wal"], "a store of which the log alone is left was made anew")
+        os.mkdir(linked := f"{room}/linked")
+        os.symlink(f"{room}/missing.db", f"{linked}/site-0.db")
+        refuses(linked, 0, "no store")
+        need(os.listdir(linked) == ["site-0.db"], f"a server that finds a link that leads nowhere leaves {os.listdir(linked)!r}")
         table = f"{room}/table"
         os.mkdir(table)
         with contextlib.closing(sqlite3.connect(f"{table}/site-0.db")) as notes:
@@ -553,7 +588,8 @@ def damaged_logs(flips=10, adds=30):
             server = stored(damaged, 1)
             if server.wait_until_it_listens():
                 found = members(shown(server))
-                server.stop_silent()
+                # A log that is cut before the row of the first start leaves a new store.
+                need(server.stop() in (b"", b"" if found else new_lines(damaged, 1)), "a server with a damaged log logs more")
                 need(found == {f"SIP/{it}": 0 for it in range(len(found))}, f"of a damaged log a site has {found!r}")
                 need(found.keys() == wanted, f"of a damaged log a site has {found!r}, and SQLite {wanted!r}")
                 counts.append(len(found))
@@ -715,25 +751,19 @@ def reports_of(folder):
     return reports
 
 
-def goes_on(folder, reports, may_be_blank):
-    """A server starts with the files that one has left whose write went wrong, shows one of these reports, and takes another change. A first start
-    that was cut off may have left a store without a table."""
-    for can_be_blank in (may_be_blank, False):
-        with stored(folder, 1) as server:
-            if server.printed != server.lines():
-                errors = server.stop()
-                need(can_be_blank, f"a server that starts again says {errors!r}")
-                remove_blank(folder, errors)
-                continue
-            found = shown(server)
-            need(found in reports, f"a server that starts again shows {found!r}, and not {reports!r}")
-            with server.logged_in() as client:
-                client.succeed("QueueAdd", Queue="sales", Interface="SIP/later")
-        rows = rows_of(folder, 0)
-        check_rows(rows)
-        check_frames(rows, 0)
-        need([it[2] == BASE for it in rows] == [True, *[False] * (len(rows) - 1)], "a store doesn't have one base, in front")
-        return
+def goes_on(folder, reports):
+    """A server starts with the files that one has left whose write went wrong, shows one of these reports, and takes another change."""
+    with stored(folder, 1) as server:
+        need(server.printed == server.lines(), "a server doesn't start again")
+        found = shown(server)
+        need(found in reports, f"a server that starts again shows {found!r}, and not {reports!r}")
+        with server.logged_in() as client:
+            client.succeed("QueueAdd", Queue="sales", Interface="SIP/later")
+    need(names_in(folder) == FILES[:2], f"the files are {os.listdir(folder)!r}")
+    rows = rows_of(folder, 0)
+    check_rows(rows)
+    check_frames(rows, 0)
+    need([it[2] == BASE for it in rows] == [True, *[False] * (len(rows) - 1)], "a store doesn't have one base, in front")
 
 
 class WritesOfStore:
@@ -772,14 +802,14 @@ class WritesOfStore:
             need(how != "served" or answered == len(CHANGES), f"{answered} changes are answered")
             later = [it for it in asked[:answered] if it > failed > 0]
             need(not later, f"{len(later)} changes are answered that were asked for later")
-            goes_on(folder, [self.reports[answered], self.reports[len(asked)]], may_be_blank=how == "ended" and self.is_new and is_killed)
+            goes_on(folder, [self.reports[answered], self.reports[len(asked)]])
         except Failed as why:
             raise Failed(f"{ran} of {calls}, where the server has {how}: {why}") from None
         shutil.rmtree(folder)
         return calls, how
 
     def check_end(self, folder, how, is_killed, status, log):
-        """Needs the status and the log of the server, and that it leaves no files of a store that it could not make."""
+        """Needs the status and the log of the server, and that it leaves no file of a store that it could not make: none, or a store that is whole."""
         new = new_lines(folder, 1) if self.is_new else b""
         fault = b"queue_sites: site 0: store failed: input or output failed\n"
         logs = {"served": [new], "failed": [new + fault], "ended": refusals_of(folder, 0, "cannot open", "disk I/O error")}[how]
@@ -789,8 +819,9 @@ class WritesOfStore:
         need(lines in logs, f"it logs {log!r}")
         wanted = -signal.SIGTERM if how == "served" else -signal.SIGKILL if is_killed else 1
         need(status == wanted, f"its status is {status}")
-        left = os.listdir(folder) if how == "ended" and self.is_new and not is_killed else []
-        need(not left, f"it leaves {left!r} of a store that it could not make")
+        left = sorted(os.listdir(folder)) if how == "ended" and self.is_new and not is_killed else []
+        need(left in ([], FILES[:1], FILES[:2]), f"it leaves {left!r} of a store that it could not make")
+        need(not left or tables_of(folder, 0), "it leaves a store without a table")
 
     def run_each(self, threads, what, tried):
         """Runs the server for each of these writes and its value of LOST_WRITES. Returns how often it has ended before it listened, and how often
@@ -875,14 +906,6 @@ def some_of(allocations, number):
     return sorted({1 + place * (allocations - 1) // (number - 1) for place in range(number)})
 
 
-def remove_blank(folder, errors):
-    """Removes the files of a store that was not made whole, as docs/operation.md says: a server has refused it, and it has no table."""
-    site = next((it for it in range(2) if errors in refusals_of(folder, it, "no store")), None)
-    need(site is not None and not tables_of(folder, site), f"a server that starts again says {errors!r}")
-    for name in files_of(folder, site):
-        os.remove(f"{folder}/{name}")
-
-
 def add_one(server):
     """Adds SIP/1 in a session. Returns whether a reply says that it is there, and why the session doesn't come to its end; nothing where it does."""
     is_there = False
@@ -919,22 +942,15 @@ def run_adding(more, folder):
         raise
 
 
-def starts_again(folder, is_added=False, has_served=False):
-    """A server of two sites that has ended starts again with the files that it leaves, and has SIP/1 if a reply has said so. Where it has not served
-    yet it may leave stores without a table: returns how many."""
-    has_served = has_served or is_added
-    for blank in range(1 if has_served else 3):
-        with stored(folder) as server:
-            if server.printed != server.lines():
-                need(not has_served, "a server that has served doesn't start again")
-                remove_blank(folder, server.stop())
-                continue
-            for site in range(2) if is_added else []:
-                until_shown(server, site, b"Location: SIP/1\r\n", CAUGHT_UP)
-            shown(server)
-            server.stop()
-            return blank
-    raise Failed("a server doesn't start with the files that it left")
+def starts_again(folder, is_added=False):
+    """A server of two sites that has ended starts again with the files that it leaves, and has SIP/1 if a reply has said so."""
+    with stored(folder) as server:
+        need(server.printed == server.lines(), "a server doesn't start again")
+        for site in range(2) if is_added else []:
+            until_shown(server, site, b"Location: SIP/1\r\n", CAUGHT_UP)
+        shown(server)
+        need(names_in(folder) == FILES, f"the files are {os.listdir(folder)!r}")
+        server.stop()
 
 
 def end_refused(room, library, number):
@@ -982,8 +998,8 @@ def refused_allocations(number=SOME_ALLOCATIONS):
             f"store, the others let it serve on")
 
 
-TESTS = [greets_with_stores, kills, killed_first_starts, opened_again, new_bases, kept_rows, other_files, files_in_use, damaged_files, damaged_logs,
-         rolled_back, files_that_may_not_be_written, full_disks, writes_that_fail, refused_allocations]
+TESTS = [greets_with_stores, kills, killed_first_starts, first_starts_at_once, opened_again, new_bases, kept_rows, other_files, files_in_use,
+         damaged_files, damaged_logs, rolled_back, files_that_may_not_be_written, full_disks, writes_that_fail, refused_allocations]
 # What `all` changes.
 LONGER = {kills: lambda: kills(100), killed_first_starts: lambda: killed_first_starts(200), writes_that_fail: lambda: writes_that_fail(1),
           refused_allocations: lambda: refused_allocations(None)}

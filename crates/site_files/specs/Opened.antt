@@ -5,7 +5,7 @@ use Rattle.sqlite.specs.Recovery.{Image}
 use Rattle.sqlite.specs.State.{HasCleanDisk, State}
 use Rattle.sqlite.specs.Tree.{Trees}
 use Rattle.replica.specs.Deeds.{IsNew}
-use Rattle.replica.specs.Site.{IsSameSite, SiteState}
+use Rattle.replica.specs.Site.{IsSameSite}
 use Rattle.stored_steps.specs.StartRows.{start_row}
 use Rattle.stored_steps.specs.Stored.{Stored}
 use Rattle.site_store.specs.Steps.{Holds, Lists, kept_schema}
@@ -31,7 +31,5 @@ AddsStart image s =
 
 -- a site is a new one, at its first start
 pub record IsFirstStart {D : Type 0} (it : SiteFile D) : Type 0 where
-  pub fresh : SiteState
-  pub new : IsNew fresh
-  pub same : IsSameSite fresh it.replica
+  pub new : IsNew it.replica
   pub first : it.starts ≡ 1

@@ -9,7 +9,7 @@ mod site_file;
 mod site_file_fault;
 mod store_in_file;
 
-pub use opening::{file_of_site, new_site_file, open_site_file, resume_site_file};
+pub use opening::{file_of_site, open_site_file, resume_site_file};
 pub use site_database::SiteDatabase;
 pub use site_file::{OpenedFile, SiteFile};
 pub use site_file_fault::SiteFileFault;

@@ -1,27 +1,24 @@
 //! Opens the file of a site's store.
-ghost use Rattle.std.specs.Prelude.{◌≡◌, ◌≢◌, ◌≤◌, ◌++◌, ◌∷◌, [], ℕ, List, IfOk, IsTrue, codes};
-ghost use Rattle.std.specs.Prelude.{decimal, false, string_bytes, true};
+ghost use Rattle.std.specs.Prelude.{◌≡◌, ◌↔◌, ◌≤◌, ◌++◌, IfOk, IsTrue, codes};
+ghost use Rattle.std.specs.Prelude.{decimal, string_bytes};
 ghost use Rattle.sqlite.specs.Files.{file_state};
-ghost use Rattle.sqlite.specs.Held.{state};
-ghost use Rattle.sqlite.specs.State.{HasCleanDisk};
 ghost use Rattle.sqlite.specs.WalFiles.{image_at};
 ghost use Rattle.replica.specs.Deeds.{IsNew};
 ghost use Rattle.replica.specs.Site.{SiteState};
 ghost use Rattle.site_journal.specs.declared.journaled.TheConstants.{MOST_STEPS};
 ghost use Rattle.stored_steps.specs.Bases.{IsRowOfBase};
-ghost use Rattle.stored_steps.specs.StartRows.{start_row};
-ghost use Rattle.stored_steps.specs.Stored.{Stored};
-ghost use Rattle.site_store.specs.Steps.{Holds};
 ghost use Rattle.site_files.specs.Opened.{AddsStart, GoesOn, IsFirstStart};
 
 use crate::{OpenedFile, SiteFile, SiteFileFault};
 use dots::{Memory, SiteId};
 use replica::{QueueList, Replica};
 use site_journal::MOST_STEPS;
-use site_store::{OpenFault, open, open_new};
-use sqlite::{Alter, Connection, Start};
+use site_store::{OpenFault, close, open, open_new};
+use sqlite::{Start, Unknown};
 use std::alloc::Global;
-use std::fs;
+use std::fs::{self, File};
+use std::io::ErrorKind;
+use std::path::Path;
 use std::random::RandomSource;
 use step_database::StepDatabase;
 use stored_steps::{NAME_BYTES, StoredRow, row_of_base};
@@ -36,52 +33,25 @@ pub fn file_of_site(alloc: Global, folder: &str, site: SiteId) -> Result<String,
     Ok(path)
 }
 
-// The name of the log of a file: `PATH-wal`. Fails only when out of memory. No contract says which name.
-fn log_of(alloc: Global, path: &str) -> Result<String, Memory> {
-    let log = format!(in alloc; "{path}-wal")?;
-    Ok(log)
+// A path with this ending. Fails only when out of memory.
+fn with_ending(alloc: Global, path: &str, ending: &str) -> Result<String, Memory>
+    ensures { IfOk result (λ it. string_bytes it ≡ path.now ++ ending.now) }
+{
+    let path = format!(in alloc; "{path}{ending}")?;
+    Ok(path)
 }
 
-// The site that goes on over a connection, and its store, which is new as `is_new` says. Errors, in order: those of `StepDatabase::resume`;
-// `Memory` for a copy of the site, after which the row of this start stands.
-fn resume_connection<S: Alter + Drop>(
-    alloc: Global,
-    conn: Connection<S>,
-    site: SiteId,
-    list: &QueueList,
-    limit: u32,
-    keeps: bool,
-    is_new: bool,
-) -> Result<SiteFile<StepDatabase<S>>, OpenFault>
-    requires some { 1 ≤ limit }
-    requires most { limit ≤ MOST_STEPS }
-    ensures goes_on { IfOk result (λ it. GoesOn site list.now keeps
-        (state S.Store it.store.conn) it) }
-    ensures rows { IfOk result (λ it. HasCleanDisk (state S.Store it.store.conn)
-        → (first : ℕ) (rows : List Stored)
-        → Holds (state S.Store conn) first rows → rows ≢ []
-        → Holds (state S.Store it.store.conn) first (rows ++ start_row ∷ [])) }
-    ensures clean { IfOk result (λ it. HasCleanDisk (state S.Store it.store.conn)
-        → HasCleanDisk (state S.Store conn)) }
-    ensures is_new { IfOk result (λ it. it.is_new ≡ is_new) }
+// A path with this number behind it. Fails only when out of memory. No contract says how the number is written.
+fn with_number(alloc: Global, path: &str, number: u64) -> Result<String, Memory> {
+    let path = format!(in alloc; "{path}-new-{number}")?;
+    Ok(path)
+}
+
+// Whether a store that was started so often has a new site, which says this, at its first start.
+fn is_first_start(starts: u64, replica: &Replica) -> bool
+    ensures { IsTrue result ↔ ((starts ≡ 1) × IsNew replica.now) }
 {
-    let (store, journal) = StepDatabase::resume(alloc, conn, site, list, limit, keeps)?;
-    let replica = journal.replica().copy();
-    drop(journal);
-    let (name, starts) = (*store.name(), store.starts());
-    match replica {
-        Ok(replica) => Ok(SiteFile {
-            store,
-            replica,
-            name,
-            starts,
-            is_new,
-        }),
-        Err(_) => {
-            drop(store);
-            Err(OpenFault::Memory)
-        }
-    }
+    starts == 1 && replica.is_new()
 }
 
 /// The site whose store is the file at a path, with these queues. The row of this start is added, in a commit of its own. While the
@@ -106,10 +76,25 @@ pub fn resume_site_file<S: Start>(
         (file_state it.store.conn) it) }
     // The store has the rows that the file held, and then that of this start.
     ensures rows { IfOk result (λ it. AddsStart (image_at S.Start) (file_state it.store.conn)) }
-    ensures is_new { IfOk result (λ it. it.is_new ≡ false) }
+    ensures is_new { IfOk result (λ it. IsTrue it.is_new ↔ IsFirstStart it) }
 {
     let conn = open(rt, path, start)?;
-    resume_connection(rt.alloc(), conn, site, list, limit, keeps, false)
+    let (store, journal) = StepDatabase::resume(rt.alloc(), conn, site, list, limit, keeps)?;
+    let replica = journal.replica().copy();
+    drop(journal);
+    let Ok(replica) = replica else {
+        drop(store);
+        return Err(OpenFault::Memory);
+    };
+    let (name, starts) = (*store.name(), store.starts());
+    let is_new = is_first_start(starts, &replica);
+    Ok(SiteFile {
+        store,
+        replica,
+        name,
+        starts,
+        is_new,
+    })
 }
 
 // The row of the base of a new site with these queues, over a store that has this name and was never started. Fails only when out of
@@ -129,87 +114,149 @@ fn new_base(
     row
 }
 
-/// Makes the store of a new site, with these queues, in a file at a path that is missing or has no table yet. The store's name is 16 random
-/// bytes. The row of this start is added, in a commit of its own. `limit` and `keeps` are as `resume_site_file` has them.
-///
-/// Errors, in order: `NoName`; `Open`, with the errors of `open_new` of `site_store`, or, if the file fails thereafter, those of `resume`
-/// and `keep_rows` of `site_store`. `Open` with `Memory` may replace each. After an `Open` the file may be there, with or without
-/// its table.
-pub fn new_site_file<S: Start>(
+// Makes the store of a new site, with these queues, in a file at a path that is missing. The store's name is 16 random bytes. After Ok the
+// file holds the store without its log: that is what `open_new` and `close` say of the connection, and no contract says it of a path.
+// Errors, in order: `NoName`; those of `open_new` and of `close`. `Memory` may replace each.
+fn make_store(
     rt: &HostRuntime,
     path: &str,
-    start: S,
     site: SiteId,
     list: &QueueList,
-    limit: u32,
-    keeps: bool,
-) -> Result<OpenedFile<S>, SiteFileFault>
-    requires some { 1 ≤ limit }
-    requires most { limit ≤ MOST_STEPS }
-    ensures goes_on { IfOk result (λ it. GoesOn site list.now keeps
-        (file_state it.store.conn) it) }
-    // The site is a new one, at its first start.
-    ensures first { IfOk result (λ it. HasCleanDisk (file_state it.store.conn) → IsFirstStart it) }
-    ensures is_new { IfOk result (λ it. it.is_new ≡ true) }
-{
+) -> Result<(), SiteFileFault> {
     let mut name = [0u8; NAME_BYTES];
     if let Err(error) = rt.fill_bytes(&mut name) {
-        drop(start);
         return Err(SiteFileFault::NoName(error));
     }
-    let Ok(base) = new_base(rt.alloc(), site, list, &name) else {
-        drop(start);
-        return Err(SiteFileFault::Open(OpenFault::Memory));
-    };
-    let opened = open_new(rt, path, start, 0, &base);
+    let base = new_base(rt.alloc(), site, list, &name)?;
+    let opened = open_new(rt, path, Unknown, 0, &base);
     drop(base);
-    match opened {
-        Ok(conn) => match resume_connection(rt.alloc(), conn, site, list, limit, keeps, true) {
-            Ok(file) => Ok(file),
-            Err(fault) => Err(SiteFileFault::Open(fault)),
-        },
-        Err(fault) => Err(SiteFileFault::Open(fault)),
+    let files = close(opened?)?;
+    drop(files);
+    Ok(())
+}
+
+// Whether nothing has a path. If the system doesn't say, the answer is `false`. No contract says this.
+fn is_missing(rt: &HostRuntime, path: &str) -> bool {
+    match fs::symlink_metadata(rt, path) {
+        Ok(_) => false,
+        Err(error) => error.kind() == ErrorKind::NotFound,
     }
 }
 
-// Whether no file is at a path. If the system doesn't say, the answer is `false`. No contract says this.
-fn is_missing(rt: &HostRuntime, path: &str) -> bool {
-    matches!(fs::exists(rt, path), Ok(false))
-}
-
-// Whether a file at a path has no bytes, or one, which a database takes for none. If the system doesn't say, the answer is `false`. No
-// contract says this.
+// Whether a file at a path has no bytes, or one, which a database takes for none, or the path is a link that leads nowhere. If the system
+// doesn't say, the answer is `false`. No contract says this.
 fn is_empty(rt: &HostRuntime, path: &str) -> bool {
     match fs::metadata(rt, path) {
         Ok(found) => found.len() <= 1,
-        Err(_) => false,
+        Err(error) => error.kind() == ErrorKind::NotFound,
     }
 }
 
-// Whether the files of a store that could not be made for this fault are to be removed: the database failed, or it can't be opened and
-// the file at the path has at most one byte. No contract says this.
-fn leaves_files(rt: &HostRuntime, path: &str, fault: &OpenFault) -> bool {
-    match fault {
-        OpenFault::Database(_) => true,
-        OpenFault::CannotOpen => is_empty(rt, path),
-        _ => false,
-    }
+// Whether the log of the file at a path is there, or the system doesn't say. Fails only when out of memory.
+fn has_log(rt: &HostRuntime, path: &str) -> Result<bool, Memory> {
+    let log = with_ending(rt.alloc(), path, "-wal")?;
+    Ok(!is_missing(rt, log.as_str()))
 }
 
-// Removes the file at a path and its log, of a store that could not be made. A failure leaves them. No contract says this.
-fn remove_files(rt: &HostRuntime, path: &str, log: &str) {
+// Removes the file at a path and its log. What the system doesn't remove stays. Fails only when out of memory. No contract says this.
+fn remove_files(rt: &HostRuntime, path: &str) -> Result<(), Memory> {
+    let log = with_ending(rt.alloc(), path, "-wal")?;
     let _ = fs::remove_file(rt, path);
-    let _ = fs::remove_file(rt, log);
+    let _ = fs::remove_file(rt, log.as_str());
+    Ok(())
+}
+
+// The folder of the file at a path, which nobody else holds, until it is dropped: it waits for who does. The fault is `CannotOpen`. No
+// contract says which folder.
+fn locked_folder(rt: &HostRuntime, path: &str) -> Result<File, OpenFault> {
+    let folder = match Path::new(path).parent() {
+        Some(folder) if !folder.as_str().is_empty() => folder.as_str(),
+        _ => ".",
+    };
+    let Ok(folder) = File::open(rt, folder) else {
+        return Err(OpenFault::CannotOpen);
+    };
+    match folder.lock() {
+        Ok(()) => Ok(folder),
+        Err(_) => Err(OpenFault::CannotOpen),
+    }
+}
+
+// A path beside this one, `PATH-new-N`, where N is random. Errors: `NoName`; `Memory`.
+fn path_beside(rt: &HostRuntime, path: &str) -> Result<String, SiteFileFault> {
+    let mut number = [0u8; 8];
+    if let Err(error) = rt.fill_bytes(&mut number) {
+        return Err(SiteFileFault::NoName(error));
+    }
+    let beside = with_number(rt.alloc(), path, u64::from_be_bytes(number))?;
+    Ok(beside)
+}
+
+// Renames the file at a path, in this folder, and syncs the folder. The fault is `CannotOpen`. No contract says this.
+fn rename_file(rt: &HostRuntime, folder: &File, from: &str, to: &str) -> Result<(), OpenFault> {
+    if fs::rename(rt, from, to).is_err() || folder.sync_all().is_err() {
+        return Err(OpenFault::CannotOpen);
+    }
+    Ok(())
+}
+
+// Makes the store of a new site, with these queues, at a path in a folder that this process holds, if the path is missing: in another file,
+// which is renamed once it is whole. Errors, in order: `NoStore`, if the log of the path is there; `NoName`; those of `make_store` and of
+// `rename_file`. `Memory` may replace each. At an error no new file is left, if the system removes it.
+fn make_in_folder(
+    rt: &HostRuntime,
+    folder: &File,
+    path: &str,
+    site: SiteId,
+    list: &QueueList,
+) -> Result<(), SiteFileFault> {
+    if !is_missing(rt, path) {
+        return Ok(());
+    }
+    if has_log(rt, path)? {
+        return Err(SiteFileFault::Open(OpenFault::NoStore));
+    }
+    let new = path_beside(rt, path)?;
+    let made = match make_store(rt, new.as_str(), site, list) {
+        Ok(()) => rename_file(rt, folder, new.as_str(), path).map_err(SiteFileFault::Open),
+        Err(fault) => Err(fault),
+    };
+    remove_files(rt, new.as_str())?;
+    made
+}
+
+// What must be done before the store at a path is opened: if the path is missing, the store of a new site is made. Errors, in order:
+// those of `locked_folder` and of `make_in_folder`, if the path is missing; else `NoStore`, if the file has at most one byte, or the path
+// is a link that leads nowhere. `Memory` may replace each.
+fn prepare_file(
+    rt: &HostRuntime,
+    path: &str,
+    site: SiteId,
+    list: &QueueList,
+) -> Result<(), SiteFileFault> {
+    if is_missing(rt, path) {
+        let folder = locked_folder(rt, path)?;
+        let made = make_in_folder(rt, &folder, path, site, list);
+        drop(folder);
+        return made;
+    }
+    if is_empty(rt, path) {
+        return Err(SiteFileFault::Open(OpenFault::NoStore));
+    }
+    Ok(())
 }
 
 /// The site whose store is the file at a path, with these queues, as `resume_site_file` has it. Where neither the file nor its log
-/// (`PATH-wal`) is there, it makes a new site in that file, as `new_site_file` does.
+/// (`PATH-wal`) is there, it first makes the store of a new site, with a name of 16 random bytes: in a file `PATH-new-N`, N at random,
+/// which is renamed once it is whole. So a crash leaves a whole store or none at the path, and the next call goes on; it may leave
+/// `PATH-new-N` and its log, which nothing needs. Meanwhile it holds the lock (`flock`) of the folder, for which others wait that make a
+/// store there.
 ///
-/// Errors, in order: `Open` with `NoStore`, if only the log is there, or the system doesn't say whether it is, or the file has at most one
-/// byte or no table: it may have been a store, and a new site of its number would make dots that others have; `Open`, with the errors of
-/// `resume_site_file` except `Blank`; those of `new_site_file`, and if the database failed, or no byte could be written, the new files are
-/// removed. `Open` with `Memory` may replace each. A store that is refused keeps its rows. After `Memory`, or a crash while the file is
-/// made, a file without a table may be left: each later call says `NoStore` until the file and its log are removed.
+/// Errors, in order: `Open` with `CannotOpen`, if the file is missing and its folder can't be opened or locked; `Open` with `NoStore`, if
+/// only the log is there, or the system doesn't say whether it is, or the file has at most one byte, or the path is a link that leads
+/// nowhere: it may have been a store, and a new site of its number would make dots that others have; `NoName`; `Open` with those of
+/// `open_new` and `close` of `site_store`; `Open` with `CannotOpen`, if the new file can't be renamed; `Open` with those of
+/// `resume_site_file`, but `NoStore` in place of `Blank`. `Open` with `Memory` may replace each. A store that is refused keeps its rows.
 pub fn open_site_file<S: Start>(
     rt: &HostRuntime,
     path: &str,
@@ -223,38 +270,17 @@ pub fn open_site_file<S: Start>(
     requires most { limit ≤ MOST_STEPS }
     ensures goes_on { IfOk result (λ it. GoesOn site list.now keeps
         (file_state it.store.conn) it) }
-    // A store that isn't new has the rows that the file held, and then that of this start.
-    ensures rows { IfOk result (λ it. it.is_new ≡ false
-        → AddsStart (image_at S.Start) (file_state it.store.conn)) }
-    // A new one is of a new site, at its first start.
-    ensures first { IfOk result (λ it. IsTrue it.is_new
-        → HasCleanDisk (file_state it.store.conn) → IsFirstStart it) }
+    // The store has the rows that the file held as it was opened, and then that of this start.
+    ensures rows { IfOk result (λ it. AddsStart (image_at S.Start) (file_state it.store.conn)) }
+    ensures is_new { IfOk result (λ it. IsTrue it.is_new ↔ IsFirstStart it) }
 {
-    if !is_missing(rt, path) {
-        if is_empty(rt, path) {
-            drop(start);
-            return Err(SiteFileFault::Open(OpenFault::NoStore));
-        }
-        return match resume_site_file(rt, path, start, site, list, limit, keeps) {
-            Ok(file) => Ok(file),
-            Err(OpenFault::Blank) => Err(SiteFileFault::Open(OpenFault::NoStore)),
-            Err(fault) => Err(SiteFileFault::Open(fault)),
-        };
-    }
-    let Ok(log) = log_of(rt.alloc(), path) else {
+    if let Err(fault) = prepare_file(rt, path, site, list) {
         drop(start);
-        return Err(SiteFileFault::Open(OpenFault::Memory));
-    };
-    if !is_missing(rt, log.as_str()) {
-        drop(log);
-        drop(start);
-        return Err(SiteFileFault::Open(OpenFault::NoStore));
+        return Err(fault);
     }
-    let made = new_site_file(rt, path, start, site, list, limit, keeps);
-    if let Err(SiteFileFault::Open(fault)) = &made {
-        if leaves_files(rt, path, fault) {
-            remove_files(rt, path, log.as_str());
-        }
+    match resume_site_file(rt, path, start, site, list, limit, keeps) {
+        Ok(file) => Ok(file),
+        Err(OpenFault::Blank) => Err(SiteFileFault::Open(OpenFault::NoStore)),
+        Err(fault) => Err(SiteFileFault::Open(fault)),
     }
-    made
 }

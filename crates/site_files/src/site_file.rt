@@ -14,7 +14,7 @@ pub struct SiteFile<D: Drop> {
     pub name: [u8; NAME_BYTES],
     /// How often the site was started over the store, this start included; at most 2^64 - 1.
     pub starts: u64,
-    /// Whether this start has made the store.
+    /// Whether the site is a new one, at its first start.
     pub is_new: bool,
 }
 

@@ -1,3 +1,4 @@
+use dots::Memory;
 use site_store::OpenFault;
 use std::io;
 use thiserror::Error;
@@ -11,4 +12,16 @@ pub enum SiteFileFault {
     /// The system gives no random bytes for the name of a new store, for this reason.
     #[error("no random bytes: {0}")]
     NoName(io::Error),
+}
+
+impl From<OpenFault> for SiteFileFault {
+    fn from(fault: OpenFault) -> SiteFileFault {
+        SiteFileFault::Open(fault)
+    }
+}
+
+impl From<Memory> for SiteFileFault {
+    fn from(_: Memory) -> SiteFileFault {
+        SiteFileFault::Open(OpenFault::Memory)
+    }
 }

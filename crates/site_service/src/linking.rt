@@ -116,8 +116,8 @@ where
 }
 
 /// Serves one site over the store in the file `place` until it ends, as `serve_stored_linked_site` of `linked_site` does, and returns why
-/// it has ended. The store is opened first; if its file is missing it is made, with a line in `events`. The log then has two lines, as
-/// `listening clients 127.0.0.1:5038` and `listening links 127.0.0.1:7038`, and nothing more.
+/// it has ended. The store is opened first; if its file is missing it is made. A new site's first start has a line in `events`. The log
+/// then has two lines, as `listening clients 127.0.0.1:5038` and `listening links 127.0.0.1:7038`, and nothing more.
 ///
 /// Errors, in order: 1 `Store`, with the path and the cause, and `Memory`; the log is as it was; 2 `Linked` with `NoAddress`, if the system
 /// doesn't say where the site listens; 3 `Write`, if the log failed, or took no bytes; 4 `Linked`, with the errors of
@@ -229,8 +229,8 @@ fn serve_new<
     }
 }
 
-/// Serves one new site, which stores nothing, until it ends, as `serve_linked_site` of `linked_site` does, and returns why it has ended. The
-/// log has the lines of `serve_linked_file`. The 16 bytes in place of a store's name are random.
+/// Serves one new site, which stores nothing, until it ends, as `serve_linked_site` of `linked_site` does, and returns why it has ended.
+/// The log has the lines of `serve_linked_file`. The 16 bytes in place of a store's name are random.
 ///
 /// Errors, in order: 1 `Linked` with `Memory` or `NoRandom`; the log is as it was; 2 `Linked` with `NoAddress`; 3 `Write`; 4 `Linked`, with
 /// the errors of `serve_linked_site`. `Memory` may stand in place of 3.

@@ -37,8 +37,8 @@ fn refusal(alloc: Global, path: &str, fault: SiteFileFault) -> ServiceFault
     }
 }
 
-// The site whose store is this file. If the file is missing it is made, which is logged. Errors: `Store`, with the path and the cause;
-// `Memory`.
+// The site whose store is this file. If the file is missing it is made. A new site's first start is logged. Errors: `Store`, with the path
+// and the cause; `Memory`.
 pub(crate) fn open_site<D: StoreInFile, R: Wait>(
     rt: &R,
     host: &HostRuntime,

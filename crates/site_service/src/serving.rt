@@ -97,12 +97,13 @@ fn starts_of<D: StoreInFile, R: Wait>(
     Ok(starts)
 }
 
-/// Serves sites over their stores at once, as many as `settings` says, with the numbers 0, 1 and so on and the queues of `list`. The store of
-/// site i is the file `FOLDER/site-i.db`. All stores are opened first, in order, and a store whose file is missing is made, with a line in
-/// `events`: `queue_sites: site 0: new store FOLDER/site-0.db`. The sites are then served as `serve_stored_sites` of `server` does.
+/// Serves sites over their stores at once, as many as `settings` says, with the numbers 0, 1 and so on and the queues of `list`. The store
+/// of site i is the file `FOLDER/site-i.db`. All stores are opened first, in order; a file that is missing is made. A new site's first
+/// start has a line in `events`: `queue_sites: site 0: new store FOLDER/site-0.db`. The sites are then served as `serve_stored_sites` of
+/// `server` does.
 ///
-/// It returns Ok when all sites have ended: each has taken as many connections as `sessions` says, or one has failed, and a line in `events`
-/// says why.
+/// It returns Ok when all sites have ended: each has taken as many connections as `sessions` says, or one has failed, and a line in
+/// `events` says why.
 ///
 /// Errors, in order: 1 `Store`, for the first store that gives no site, with its path and the cause, and `Memory`; the log is as it was;
 /// 2 `Server`, with the errors of `serve_stored_sites`.

@@ -20,7 +20,7 @@ pub use group::append_all;
 pub use history::read_history;
 pub use keeping::keep_rows;
 pub use open_fault::OpenFault;
-pub use opening::{open, open_blank, open_new};
+pub use opening::{close, open, open_blank, open_new};
 pub use reading::{Listed, read_all};
 pub use replacing::replace_base;
 pub use resuming::{LAST_POSITION, ResumedSite, resume};

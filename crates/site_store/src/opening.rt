@@ -6,8 +6,10 @@ ghost use Rattle.sqlite.specs.Files.{HoldsDatabase, IsBlankAs, file_state};
 ghost use Rattle.sqlite.specs.FileStore.{view};
 ghost use Rattle.sqlite.specs.Held.{state};
 ghost use Rattle.sqlite.specs.Tree.{Trees};
+ghost use Rattle.sqlite.specs.WalReads.{AreClean};
 ghost use Rattle.sqlite.specs.WalFiles.{image_at};
 ghost use Rattle.stored_steps.specs.Stored.{Stored};
+ghost use Rattle.site_store.specs.Closed.{IsWhole};
 ghost use Rattle.site_store.specs.declared.shape.Shape.{Shape};
 ghost use Rattle.site_store.specs.Steps.{Holds, IsIdle, IsStoreSchema, LeavesOnly, Lists};
 ghost use Rattle.site_store.specs.Steps.{no_schema, step_schema};
@@ -16,7 +18,8 @@ use crate::OpenFault;
 use crate::creating::create;
 use crate::open_fault::open_fault;
 use crate::shape::{Shape, has_shape, is_blank_schema};
-use sqlite::{Alter, Connection, FileFrom, FileStore, Start};
+use sqlite::{Alter, Connection, FileFrom, FileStore, Files, Start};
+use sqlite_disk::Disk;
 use stored_steps::StoredRow;
 
 // A connection to a database of this shape. A database of another shape is closed: the fault is `Blank`, if it has nothing, else `NoStore`.
@@ -167,4 +170,23 @@ pub fn open_new<S: Start>(
 {
     let conn = open_blank(rt, path, start)?;
     with_base(conn, at, base)
+}
+
+/// Closes a store: rolls back a transaction that is open, and copies the log into the file, which then holds the store alone. The files
+/// that it returns are closed as they are dropped.
+///
+/// Errors: the database's, as `open` has them.
+pub fn close<D: Disk + Drop>(conn: Connection<FileStore<D>>) -> Result<Files<D>, OpenFault>
+    // The files hold the rows of the table of steps, also after a crash, and so does the file without its log.
+    ensures whole { IfOk result (λ files. AreClean D.Disk files.log files.db
+        → (first : ℕ) (rows : List Stored) → IsIdle (file_state conn)
+        → Holds (file_state conn) first rows → IsWhole D.Disk files first rows) }
+{
+    match conn.close_files() {
+        Ok(files) => Ok(files),
+        Err((error, store)) => {
+            drop(store.close());
+            Err(open_fault(error))
+        }
+    }
 }

@@ -1,6 +1,6 @@
 //! Stores that are read from the bytes of their files.
 use crate::shared::{ADD, SECOND_ADD, base_row, put, replace};
-use site_store::{create, keep_rows};
+use site_store::{close, create, keep_rows};
 use sqlite::{Connection, FileStore, Files, Options};
 use sqlite_disk::Memory;
 use std::alloc::Global;
@@ -57,17 +57,10 @@ fn crashed(rt: &impl Abort, alloc: Global, store: Store) -> StoreBytes {
 
 // The bytes of a store that is closed: all are in its file.
 fn closed(rt: &impl Abort, alloc: Global, store: Store) -> StoreBytes {
-    match store.close_files() {
-        Ok(files) => {
-            let bytes = bytes_of(rt, alloc, &files);
-            drop(files);
-            bytes
-        }
-        Err((_, left)) => {
-            drop(left);
-            panic!(*rt; "a closed store")
-        }
-    }
+    let files = close(store).ok().expect(rt, "a closed store");
+    let bytes = bytes_of(rt, alloc, &files);
+    drop(files);
+    bytes
 }
 
 // Asserts the position of the first row that bytes hold, and the kinds of all rows.

@@ -1,6 +1,11 @@
+use Rattle.std.proofs.Common.{Result, Ok, Err, IfOk}
 use Rattle.replica.specs.Deeds.{IsNew}
-use Rattle.site_files.proofs.NewStore.{if_ok}
 use Rattle.site_files.proofs.opening.new_base.Goals as goal
+
+-- what follows of what holds at Ok
+if_ok : {A B : Type 0} (r : Result A B) (P Q : A → Type 0) → ((it : A) → P it → Q it) → IfOk r P → IfOk r Q
+if_ok (Ok it) P Q f p = f it p
+if_ok (Err fault) P Q f p = tt
 
 -- the base is that of the new site
 pub returns : goal.returns
