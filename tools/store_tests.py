@@ -418,16 +418,17 @@ def refusals_of(folder, site, *faults):
     return [f"queue_sites: store {folder}/site-{site}.db: {it}\n".encode() for it in faults]
 
 
-def refuses(folder, site, *faults, sites=1, queues=("sales",), program=BUILT, **how):
-    """A server doesn't start with the files in this folder, says why, and changes nothing in them; it may make a log without a page. Why may be
-    one of these."""
-    before = files_of(folder, site) if os.path.isdir(folder) else {}
-    words = ["serve", "--store", folder, str(sites), str(free_ports(sites)), USER, SECRET, *queues]
+def refuses(folder, site, *faults, sites=1, queues=("sales",), program=BUILT, options=(), **how):
+    """A server doesn't start with the files in this folder, since the store of this site is refused. It says why, and changes nothing in the files
+    of any of its sites; it may make a log without a page. Why may be one of these."""
+    content_of = lambda: {name: it for number in range(sites) for name, it in files_of(folder, number).items()} if os.path.isdir(folder) else {}
+    before = content_of()
+    words = ["serve", "--store", folder, *options, str(sites), str(free_ports(sites)), USER, SECRET, *queues]
     how = {"preexec_fn": how.get("before"), "capture_output": True, "timeout": PATIENCE, "check": False}
     ran = subprocess.run([program, *words], **how)
     need(ran.returncode == 1 and ran.stdout == b"" and ran.stderr in refusals_of(folder, site, *faults),
          f"where a server should say {faults!r} of a store its status is {ran.returncode}, and it says {ran.stdout + ran.stderr!r}")
-    after = files_of(folder, site) if os.path.isdir(folder) else {}
+    after = content_of()
     content = lambda files, name: b"" if len(files.get(name, b"")) < PAGE and name.endswith("-wal") else files.get(name, b"")
     changed = [it for it in {*before, *after} if content(after, it) != content(before, it)]
     need(not changed, f"a server that says {ran.stderr!r} has changed {changed!r}")
@@ -511,6 +512,28 @@ def other_files():
             need(b"ListItems: 7\r\n" in shown(server), "a store that sqlite3 has written shows other members")
             server.stop_silent()
     return "files of other sites, queues and programs, of another version, with other rows"
+
+
+def refused_beside_others():
+    """A store that is refused leaves those before it as they were, also where they were to keep rows. One that is missing is made, and not started:
+    it is new when it first starts."""
+    with tempfile.TemporaryDirectory() as room:
+        folder = made(room)
+        mixed, half = copied(folder, room, "mixed"), f"{room}/half"
+        for name, content in files_of(folder, 0).items():
+            for place in mixed, half:
+                put(place, name.replace("site-0", "site-1"), content)
+        refuses(mixed, 1, "base: another site", sites=2)
+        refuses(mixed, 1, "base: another site", sites=2, options=["--keep"])
+        words = ["serve", "--store", half, "2", str(free_ports(2)), USER, SECRET, "sales"]
+        check(BUILT, words, 1, errors=refusals_of(half, 1, "base: another site")[0])
+        need([it[2] for it in rows_of(half, 0)] == [BASE], "a store that was made before another was refused has more than its base")
+        for name in files_of(half, 1):
+            os.remove(f"{half}/{name}")
+        with stored(half) as server:
+            stop_new(server, half)
+        check_words(half, 2, 1)
+    return "a store that is refused beside others"
 
 
 def files_in_use():
@@ -998,8 +1021,9 @@ def refused_allocations(number=SOME_ALLOCATIONS):
             f"store, the others let it serve on")
 
 
-TESTS = [greets_with_stores, kills, killed_first_starts, first_starts_at_once, opened_again, new_bases, kept_rows, other_files, files_in_use,
-         damaged_files, damaged_logs, rolled_back, files_that_may_not_be_written, full_disks, writes_that_fail, refused_allocations]
+TESTS = [greets_with_stores, kills, killed_first_starts, first_starts_at_once, opened_again, new_bases, kept_rows, other_files,
+         refused_beside_others, files_in_use, damaged_files, damaged_logs, rolled_back, files_that_may_not_be_written, full_disks, writes_that_fail,
+         refused_allocations]
 # What `all` changes.
 LONGER = {kills: lambda: kills(100), killed_first_starts: lambda: killed_first_starts(200), writes_that_fail: lambda: writes_that_fail(1),
           refused_allocations: lambda: refused_allocations(None)}

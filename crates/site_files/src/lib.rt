@@ -1,4 +1,4 @@
-//! The store of a site in a file: opens the file at a path, or makes a new one, and gives the site that goes on over it.
+//! The store of a site in a file: opens the file at a path, or makes a new one, and restores its site, which then goes on over it.
 //!
 //! [`StoreInFile`] is a store that can be opened so, for code that needs no more of it.
 #![tactic(auto)]
@@ -9,9 +9,9 @@ mod site_file;
 mod site_file_fault;
 mod store_in_file;
 
-pub use opening::{file_of_site, open_site_file, resume_site_file};
+pub use opening::{file_of_site, open_site_file, restore_site_file, resume_site_file};
 pub use site_database::SiteDatabase;
-pub use site_file::{OpenedFile, SiteFile};
+pub use site_file::{OpenedFile, RestoredFile, SiteFile};
 pub use site_file_fault::SiteFileFault;
 pub use site_store::OpenFault;
 pub use store_in_file::{StoreInFile, StorePath};

@@ -1,15 +1,18 @@
-//! Opens the file of a site's store.
+//! Opens the file of a site's store, and begins a start of the site.
 ghost use Rattle.std.specs.Prelude.{◌≡◌, ◌↔◌, ◌≤◌, ◌++◌, IfOk, IsTrue, codes};
 ghost use Rattle.std.specs.Prelude.{decimal, string_bytes};
 ghost use Rattle.sqlite.specs.Files.{file_state};
+ghost use Rattle.sqlite.specs.Start.{FindsIn};
+ghost use Rattle.sqlite.specs.State.{HasCleanDisk};
 ghost use Rattle.sqlite.specs.WalFiles.{image_at};
 ghost use Rattle.replica.specs.Deeds.{IsNew};
 ghost use Rattle.replica.specs.Site.{SiteState};
 ghost use Rattle.site_journal.specs.declared.journaled.TheConstants.{MOST_STEPS};
 ghost use Rattle.stored_steps.specs.Bases.{IsRowOfBase};
-ghost use Rattle.site_files.specs.Opened.{AddsStart, GoesOn, IsFirstStart};
+ghost use Rattle.step_database.specs.Restored.{AddsStart, IsRestored};
+ghost use Rattle.site_files.specs.Opened.{GoesOn, HoldsRowsOf, IsFirstStart};
 
-use crate::{OpenedFile, SiteFile, SiteFileFault};
+use crate::{OpenedFile, RestoredFile, SiteFile, SiteFileFault};
 use dots::{Memory, SiteId};
 use replica::{QueueList, Replica};
 use site_journal::MOST_STEPS;
@@ -20,7 +23,7 @@ use std::fs::{self, File};
 use std::io::ErrorKind;
 use std::path::Path;
 use std::random::RandomSource;
-use step_database::StepDatabase;
+use step_database::{RestoredDatabase, StepDatabase};
 use stored_steps::{NAME_BYTES, StoredRow, row_of_base};
 
 /// The name of the file of this site's store in a folder: `FOLDER/site-K.db`. Fails only when out of memory.
@@ -54,38 +57,49 @@ fn is_first_start(starts: u64, replica: &Replica) -> bool
     starts == 1 && replica.is_new()
 }
 
-/// The site whose store is the file at a path, with these queues. The row of this start is added, in a commit of its own. While the
-/// store's steps are done again `limit` of them are in memory, 1 to 1,000,000. If `keeps`, the store keeps from then on the rows in whose
-/// place a base is put; a store that has begun to keep rows goes on.
+/// The store in the file at a path, whose site has this number and these queues. While the store's steps are done again at most `limit` of
+/// them are in memory, 1 to 1,000,000, beside all rows; no contract says this. Nothing is changed in a file that is there.
 ///
-/// Errors, in order: those of `open` of `site_store`, of which `Blank` leaves a file without a table where none was; those of `resume`
-/// of `site_store`, and those of its `keep_rows`, after which the row of this start stands. The other rows stay at each of these. `Memory`
-/// may replace each. After it, and after an error of `resume`, the row of this start may stand too.
-pub fn resume_site_file<S: Start>(
+/// Errors, in order: those of `open` of `site_store`, of which `Blank` leaves a file without a table where none was; those of `restore` of
+/// `RestoredDatabase`. `Memory` may replace each.
+pub fn restore_site_file<S: Start>(
     rt: &HostRuntime,
     path: &str,
     start: S,
     site: SiteId,
     list: &QueueList,
     limit: u32,
-    keeps: bool,
-) -> Result<OpenedFile<S>, OpenFault>
+) -> Result<RestoredFile<S>, OpenFault>
     requires some { 1 ≤ limit }
     requires most { limit ≤ MOST_STEPS }
-    ensures goes_on { IfOk result (λ it. GoesOn site list.now keeps
-        (file_state it.store.conn) it) }
-    // The store has the rows that the file held, and then that of this start.
-    ensures rows { IfOk result (λ it. AddsStart (image_at S.Start) (file_state it.store.conn)) }
-    ensures is_new { IfOk result (λ it. IsTrue it.is_new ↔ IsFirstStart it) }
+    ensures site { IfOk result (λ it. it.replica.site ≡ site) }
+    ensures names { IfOk result (λ it. it.replica.names ≡ list.now) }
+    ensures restored { IfOk result (λ it. IsRestored (file_state it.conn) it) }
+    ensures rows { IfOk result (λ it. HoldsRowsOf (image_at S.Start) (file_state it.conn)) }
+    // The database that the file held is still what is committed.
+    ensures finds { IfOk result (λ it. HasCleanDisk (file_state it.conn)
+        → FindsIn (image_at S.Start) (file_state it.conn)) }
 {
     let conn = open(rt, path, start)?;
-    let (store, journal) = StepDatabase::resume(rt.alloc(), conn, site, list, limit, keeps)?;
-    let replica = journal.replica().copy();
-    drop(journal);
-    let Ok(replica) = replica else {
-        drop(store);
-        return Err(OpenFault::Memory);
-    };
+    RestoredDatabase::restore(rt.alloc(), conn, site, list, limit)
+}
+
+/// A start of the restored site of a file: the site, and its store. The row of the start is added, in a commit of its own. If `keeps`, the
+/// store keeps from then on the rows in whose place a base is put, by another commit; a store that has begun to keep rows goes on.
+///
+/// Errors are those of `resume` of `StepDatabase`. After each the row of the start may stand; the other rows stay.
+pub fn resume_site_file<S: Start>(
+    restored: RestoredFile<S>,
+    keeps: bool,
+) -> Result<OpenedFile<S>, OpenFault>
+    requires restored { IsRestored (file_state restored.conn) restored }
+    ensures replica { IfOk result (λ it. it.replica ≡ restored.replica) }
+    ensures goes_on { IfOk result (λ it. GoesOn (file_state it.store.conn) it) }
+    ensures adds { IfOk result (λ it.
+        AddsStart keeps (file_state restored.conn) (file_state it.store.conn)) }
+    ensures is_new { IfOk result (λ it. IsTrue it.is_new ↔ IsFirstStart it) }
+{
+    let (store, replica) = StepDatabase::resume(restored, keeps)?;
     let (name, starts) = (*store.name(), store.starts());
     let is_new = is_first_start(starts, &replica);
     Ok(SiteFile {
@@ -246,17 +260,16 @@ fn prepare_file(
     Ok(())
 }
 
-/// The site whose store is the file at a path, with these queues, as `resume_site_file` has it. Where neither the file nor its log
-/// (`PATH-wal`) is there, it first makes the store of a new site, with a name of 16 random bytes: in a file `PATH-new-N`, N at random,
-/// which is renamed once it is whole. So a crash leaves a whole store or none at the path, and the next call goes on; it may leave
-/// `PATH-new-N` and its log, which nothing needs. Meanwhile it holds the lock (`flock`) of the folder, for which others wait that make a
-/// store there.
+/// The store in the file at a path, as `restore_site_file` has it. Where neither the file nor its log (`PATH-wal`) is there, it first makes
+/// the store of a new site, with a name of 16 random bytes: in a file `PATH-new-N`, N at random, which is renamed once it is whole. So a
+/// crash leaves a whole store or none at the path, and the next call goes on; it may leave `PATH-new-N` and its log, which nothing needs.
+/// Meanwhile it holds the lock (`flock`) of the folder, for which others wait that make a store there.
 ///
 /// Errors, in order: `Open` with `CannotOpen`, if the file is missing and its folder can't be opened or locked; `Open` with `NoStore`, if
 /// only the log is there, or the system doesn't say whether it is, or the file has at most one byte, or the path is a link that leads
 /// nowhere: it may have been a store, and a new site of its number would make dots that others have; `NoName`; `Open` with those of
 /// `open_new` and `close` of `site_store`; `Open` with `CannotOpen`, if the new file can't be renamed; `Open` with those of
-/// `resume_site_file`, but `NoStore` in place of `Blank`. `Open` with `Memory` may replace each. A store that is refused keeps its rows.
+/// `restore_site_file`, but `NoStore` in place of `Blank`. `Open` with `Memory` may replace each. A store that is refused keeps its rows.
 pub fn open_site_file<S: Start>(
     rt: &HostRuntime,
     path: &str,
@@ -264,21 +277,22 @@ pub fn open_site_file<S: Start>(
     site: SiteId,
     list: &QueueList,
     limit: u32,
-    keeps: bool,
-) -> Result<OpenedFile<S>, SiteFileFault>
+) -> Result<RestoredFile<S>, SiteFileFault>
     requires some { 1 ≤ limit }
     requires most { limit ≤ MOST_STEPS }
-    ensures goes_on { IfOk result (λ it. GoesOn site list.now keeps
-        (file_state it.store.conn) it) }
-    // The store has the rows that the file held as it was opened, and then that of this start.
-    ensures rows { IfOk result (λ it. AddsStart (image_at S.Start) (file_state it.store.conn)) }
-    ensures is_new { IfOk result (λ it. IsTrue it.is_new ↔ IsFirstStart it) }
+    ensures site { IfOk result (λ it. it.replica.site ≡ site) }
+    ensures names { IfOk result (λ it. it.replica.names ≡ list.now) }
+    ensures restored { IfOk result (λ it. IsRestored (file_state it.conn) it) }
+    // It has the rows that the file held as it was opened.
+    ensures rows { IfOk result (λ it. HoldsRowsOf (image_at S.Start) (file_state it.conn)) }
+    ensures finds { IfOk result (λ it. HasCleanDisk (file_state it.conn)
+        → FindsIn (image_at S.Start) (file_state it.conn)) }
 {
     if let Err(fault) = prepare_file(rt, path, site, list) {
         drop(start);
         return Err(fault);
     }
-    match resume_site_file(rt, path, start, site, list, limit, keeps) {
+    match restore_site_file(rt, path, start, site, list, limit) {
         Ok(file) => Ok(file),
         Err(OpenFault::Blank) => Err(SiteFileFault::Open(OpenFault::NoStore)),
         Err(fault) => Err(SiteFileFault::Open(fault)),

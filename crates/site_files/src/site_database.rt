@@ -1,7 +1,7 @@
 ghost use Rattle.std.specs.Prelude.{[], ◌≡◌};
 
-use crate::opening::open_site_file;
-use crate::{SiteFile, SiteFileFault, StoreInFile, StorePath};
+use crate::opening::{open_site_file, resume_site_file};
+use crate::{OpenFault, RestoredFile, SiteFile, SiteFileFault, StoreInFile};
 use dots::{Memory, SiteId};
 use replica::{QueueList, Replica};
 use site_journal::Step;
@@ -69,6 +69,13 @@ impl StoreInFile for SiteDatabase {
     ghost use Rattle.sqlite.specs.Files.{file_state};
     ghost use Rattle.sqlite.specs.State.{HasCleanDisk};
     ghost use Rattle.site_store.specs.Steps.{kept_schema};
+    ghost use Rattle.step_database.specs.Restored.{IsRestored};
+
+    type Restored = RestoredFile<Unknown>;
+
+    ghost restored_site = { λ restored. restored.replica };
+
+    ghost is_restored = { λ restored. IsRestored (file_state restored.conn) restored };
 
     ghost name = { λ store. store.rows.origin.name };
 
@@ -77,22 +84,29 @@ impl StoreInFile for SiteDatabase {
     ghost keeps_rows = { λ store. HasCleanDisk (file_state store.rows.conn)
         → (file_state store.rows.conn).now.schema ≡ kept_schema };
 
-    // Does as `open_site_file`, with its errors. Contracts know nothing of what the file held (`Unknown`).
+    // As `open_site_file`. Contracts know nothing of what the file held (`Unknown`).
     fn open_site(
         rt: &HostRuntime,
-        place: StorePath<'_>,
+        path: &str,
         site: SiteId,
         list: &QueueList,
         limit: u32,
-    ) -> Result<SiteFile<SiteDatabase>, SiteFileFault> {
-        let file = open_site_file(rt, place.path, Unknown, site, list, limit, place.keeps)?;
+    ) -> Result<RestoredFile<Unknown>, SiteFileFault> {
+        open_site_file(rt, path, Unknown, site, list, limit)
+    }
+
+    // As `resume_site_file`.
+    fn resume_site(
+        restored: RestoredFile<Unknown>,
+        keeps: bool,
+    ) -> Result<SiteFile<SiteDatabase>, OpenFault> {
         let SiteFile {
             store,
             replica,
             name,
             starts,
             is_new,
-        } = file;
+        } = resume_site_file(restored, keeps)?;
         Ok(SiteFile {
             store: SiteDatabase { rows: store },
             replica,

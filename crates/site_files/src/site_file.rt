@@ -1,6 +1,6 @@
 use replica::Replica;
 use sqlite::{FileFrom, FileStore};
-use step_database::StepDatabase;
+use step_database::{RestoredDatabase, StepDatabase};
 use stored_steps::NAME_BYTES;
 
 /// A site that goes on over its store (this project's own).
@@ -17,6 +17,9 @@ pub struct SiteFile<D: Drop> {
     /// Whether the site is a new one, at its first start.
     pub is_new: bool,
 }
+
+/// A file whose site is restored, before a start of it.
+pub type RestoredFile<S> = RestoredDatabase<FileStore<FileFrom<S>>>;
 
 /// A site that goes on over a file.
 pub type OpenedFile<S> = SiteFile<StepDatabase<FileStore<FileFrom<S>>>>;

@@ -2,7 +2,7 @@ ghost use Rattle.std.specs.Prelude.{◌≡◌, ◌≤◌, [], IfOk, IsTrue};
 ghost use Rattle.replica.specs.Site.{IsSameSite};
 ghost use Rattle.site_journal.specs.declared.journaled.TheConstants.{MOST_STEPS};
 
-use crate::{SiteFile, SiteFileFault};
+use crate::{OpenFault, SiteFile, SiteFileFault};
 use dots::SiteId;
 use replica::QueueList;
 use stored_desk::StepStore;
@@ -19,6 +19,16 @@ pub struct StorePath<'a> {
 /// A store of a site that lies in a file (this project's own).
 pub trait StoreInFile: StepStore {
     ghost use Rattle.std.specs.Prelude.{ℕ, List};
+    ghost use Rattle.replica.specs.Site.{SiteState};
+
+    /// A file that is open, and whose site is restored, before a start of it.
+    type Restored: Drop;
+
+    /// What the site of a restored file says.
+    ghost restored_site: { Self.Restored → SiteState };
+
+    /// A file holds the rows from which its site was restored.
+    ghost is_restored: { Self.Restored → Type 0 };
 
     /// The bytes that name the store for ever.
     ghost name: { Self → List ℕ };
@@ -29,24 +39,31 @@ pub trait StoreInFile: StepStore {
     /// The store keeps the rows in whose place a base is put.
     ghost keeps_rows: { Self → Type 0 };
 
-    /// The site whose store is the file `place`, with these queues, as `open_site_file` has it: a new site where neither the file nor
-    /// its log is there. While the store's steps are done again `limit` of them are in memory, 1 to 1,000,000. Errors are those of
+    /// The file at a path, with its site of this number and these queues, as `open_site_file` has it: a new site where neither the file nor
+    /// its log is there. While the store's steps are done again at most `limit` of them are in memory, 1 to 1,000,000. Errors are those of
     /// `open_site_file`.
     fn open_site(
         rt: &HostRuntime,
-        place: StorePath<'_>,
+        path: &str,
         site: SiteId,
         list: &QueueList,
         limit: u32,
-    ) -> Result<SiteFile<Self>, SiteFileFault>
+    ) -> Result<Self::Restored, SiteFileFault>
         requires some { 1 ≤ limit }
         requires most { limit ≤ MOST_STEPS }
-        ensures site { IfOk result (λ it. it.replica.site ≡ site) }
-        ensures names { IfOk result (λ it. it.replica.names ≡ list.now) }
+        ensures site { IfOk result (λ it. (Self.restored_site it).site ≡ site) }
+        ensures names { IfOk result (λ it. (Self.restored_site it).names ≡ list.now) }
+        ensures restored { IfOk result (λ it. Self.is_restored it) };
+
+    /// A start of the restored site of a file, as `resume_site_file` has it: the row of the start is added. If `keeps`, the store keeps
+    /// from then on the rows in whose place a base is put. Errors are those of `resume_site_file`.
+    fn resume_site(restored: Self::Restored, keeps: bool) -> Result<SiteFile<Self>, OpenFault>
+        requires restored { Self.is_restored restored }
+        ensures replica { IfOk result (λ it. it.replica ≡ Self.restored_site restored) }
         ensures begun { IfOk result (λ it. IsSameSite (Self.begun it.store) it.replica) }
         ensures holds { IfOk result (λ it. Self.holds it.store []) }
         ensures keeps { IfOk result (λ it. Self.keeps it.store []) }
         ensures name { IfOk result (λ it. it.name ≡ Self.name it.store) }
         ensures starts { IfOk result (λ it. it.starts ≡ Self.starts it.store) }
-        ensures kept { IfOk result (λ it. IsTrue place.entry.keeps → Self.keeps_rows it.store) };
+        ensures kept { IfOk result (λ it. IsTrue keeps → Self.keeps_rows it.store) };
 }

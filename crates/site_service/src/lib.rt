@@ -12,6 +12,7 @@ mod links;
 mod opening;
 mod service_fault;
 mod serving;
+mod starting;
 
 pub use addresses::Listeners;
 pub use linked_site::EndReason;

@@ -10,7 +10,7 @@ ghost use Rattle.site_service.specs.Refusals.{IsRefusal};
 
 use crate::addresses::write_addresses;
 use crate::links::{links_of, links_without_store};
-use crate::opening::open_site;
+use crate::opening::start_site;
 use crate::{EndReason, LinkedRequest, Listeners, ServiceFault};
 use ami_text::Sink;
 use event_log::EventLog;
@@ -41,7 +41,7 @@ fn clients_of<'a>(
     }
 }
 
-// The site whose store is this file, which is made if it is missing, and how it is linked. Errors, in order: those of `open_site`;
+// The site whose store is this file, which is made if it is missing, and how it is linked. Errors, in order: those of `start_site`;
 // `Memory`, and the store is closed.
 fn linked_file<D: StoreInFile, R: Wait>(
     rt: &R,
@@ -62,7 +62,7 @@ fn linked_file<D: StoreInFile, R: Wait>(
         map string_bytes it.1.peers.items ≡ map string_bytes request.now.peers.now) }
     ensures fault { IfErr result IsRefusal }
 {
-    let file = match open_site(rt, host, place, request.site, request.list, events) {
+    let file = match start_site(rt, host, place, request.site, request.list, events) {
         Ok(file) => file,
         Err(fault) => return Err(fault),
     };

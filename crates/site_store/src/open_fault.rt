@@ -1,6 +1,6 @@
 ghost use Rattle.std.specs.Prelude.{◌≡◌};
 ghost use Rattle.site_store.specs.OpenFaults.{open_fault};
-ghost use Rattle.site_store.specs.Resumed.{IsOfRows};
+ghost use Rattle.site_store.specs.Restored.{IsOfRows};
 
 use dots::Memory;
 use sqlite::{Error, ErrorCode};

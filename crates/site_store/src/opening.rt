@@ -102,8 +102,8 @@ fn open_file<S: Start>(
     }
 }
 
-/// Opens the store at a path, which keeps rows or not. `resume` then restores its site. A file that is missing is made, and has no table:
-/// so a mistyped path gives `Blank`, and leaves a file.
+/// Opens the store at a path, which keeps rows or not. `restore_site` then restores its site. A file that is missing is made, and has no
+/// table: so a mistyped path gives `Blank`, and leaves a file.
 ///
 /// Errors, in order: `InUse`, if the file is open elsewhere; `CannotOpen`; `NoStore`, if the file is no database; `Damaged`, if a
 /// page of it is damaged; `Database`, if the database fails in another way; `Blank`, if the file is new or has no table yet; `NoStore`
@@ -148,7 +148,7 @@ pub fn open_blank<S: Start>(
 }
 
 /// Makes a store with this base, at this position, in a file that is new or has no table yet, as where an earlier call was cut off by a
-/// crash. It makes a file that is missing. `resume` then restores its site.
+/// crash. It makes a file that is missing. `restore_site` then restores its site.
 ///
 /// Errors, in order: those of `open_blank`; and the database's errors where the base is put, as `open` has them: the file then has no
 /// table, or this store.

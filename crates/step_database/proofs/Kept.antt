@@ -1,5 +1,5 @@
 -- What a crash leaves of steps.
-use Rattle.std.proofs.Common.{◌≡◌, ◌⊎◌, ◌+◌, ◌-◌, ◌^◌, ◌++◌, min, ⊎_elim, ℕ, List, [], ◌∷◌, length, sym, subst, subst₂, ◌∙◌, arith, append-nil, length-append}
+use Rattle.std.proofs.Common.{◌≡◌, ◌≢◌, ◌⊎◌, ◌+◌, ◌-◌, ◌^◌, ◌++◌, min, ⊎_elim, ℕ, List, [], ◌∷◌, length, sym, ap, subst, subst₂, ◌∙◌, arith, append-nil, length-append}
 use Rattle.sqlite.specs.Order.{Row}
 use Rattle.sqlite.specs.State.{State}
 use Rattle.sqlite.specs.Tree.{Trees}
@@ -9,13 +9,16 @@ use Rattle.site_journal.specs.declared.step.Step.{Step}
 use Rattle.stored_steps.specs.Bases.{IsRowOfBase}
 use Rattle.stored_steps.specs.StartRows.{start_row}
 use Rattle.stored_steps.specs.Stored.{Stored}
-use Rattle.site_store.specs.declared.resuming.ResumedSite.{ResumedSite}
+use Rattle.site_store.specs.declared.restoring.RestoredStore.{RestoredStore}
 use Rattle.site_store.specs.Kept.{HoldsAll, SparesKept}
-use Rattle.site_store.specs.Resumed.{IsResumed}
-use Rattle.site_store.specs.Steps.{Holds, LeavesOnly, Lists, kept_schema, step_schema}
+use Rattle.site_store.specs.Restored.{IsRestoredAt}
+use Rattle.site_store.specs.Steps.{Holds, LeavesOnly, Lists}
+use Rattle.site_store.proofs.RowLemmas.{lists_once}
+use Rattle.site_store.proofs.WriteLemmas.{holds_same}
 use Rattle.stored_desk.specs.Recorded.{IsLegalHistory}
 use Rattle.step_database.specs.Standing.{AreRowsOf, StandForSteps, StoreOrigin}
 use Rattle.step_database.specs.Databases.{BeginsWith, Keeps, Stores}
+use Rattle.step_database.specs.Restored.{HoldsRestored, RestoredState}
 use Rattle.step_database.proofs.Stands.{stand_anew, stand_begun, stand_on}
 
 -- rows that stand for just these steps begin with them
@@ -64,16 +67,36 @@ stores_rowless s origin next steps more it are legal = record {
   stand = subst (λ (l : List Stored). StandForSteps origin l (steps ++ more)) (append-nil it.rows) (stand_more s s origin next steps more [] it are legal);
 }
 
--- what a connection holds of a site that goes on stands for no step of it
-pub resumed_stores : (s : State) (it : ResumedSite) (begun : SiteState) (starts : ℕ) → IsResumed s it → begun ≡ it.site.journal.replica → starts ≡ min (it.site.starts + 1) (2 ^ 64 - 1)
-    → Stores s (record { begun = begun; name = it.site.name; starts = starts }) it.next []
-resumed_stores s it begun starts is here counted = record {
+-- what was restored from a database, with the row of a start behind it, stands for no step of the site
+pub resumed_stores : {C : Type 0} (old new : State) (it : RestoredState C) (starts : ℕ) (is : HoldsRestored old it) → starts ≡ min (it.starts + 1) (2 ^ 64 - 1) → Holds new is.first (is.rows ++ start_row ∷ [])
+    → LeavesOnly new is.first (is.rows ++ start_row ∷ []) → Stores new (record { begun = it.begun; name = it.name; starts = starts }) (it.next + 1) []
+resumed_stores old new it starts is counted holds leaves = record {
   first = is.first;
   rows = is.rows ++ start_row ∷ [];
   next_is = omega (arith, is.next_is, length-append is.rows (start_row ∷ []));
-  holds = is.holds;
-  leaves = is.leaves;
-  stand = subst (λ (r : SiteState). StandForSteps (record { begun = r; name = it.site.name; starts = starts }) (is.rows ++ start_row ∷ []) []) (sym here) (stand_begun is.rows it.site starts is.restored counted);
+  holds = holds;
+  leaves = leaves;
+  stand =
+      subst₂ (λ (r : SiteState) (n : List ℕ). StandForSteps (record { begun = r; name = n; starts = starts }) (is.rows ++ start_row ∷ []) []) (sym is.begun) (sym is.name)
+      (stand_begun is.rows is.site starts is.restored (counted ∙ ap (λ (n : ℕ). min (n + 1) (2 ^ 64 - 1)) is.starts));
+}
+
+-- the next position is behind whatever rows are held
+pub next_is_behind : {C : Type 0} (s : State) (it : RestoredState C) (first : ℕ) (rows : List Stored) → HoldsRestored s it → Holds s first rows → rows ≢ [] → it.next ≡ first + length rows
+next_is_behind s it first rows is holds some =
+    let same = lists_once (s.now.trees 0) first is.first rows is.rows holds.rows is.holds.rows some in
+    let size : length rows ≡ length is.rows = ap length same.1 in
+    omega (arith, is.next_is, same.0, size)
+
+-- the same rows are held where nothing has changed
+pub restored_same : (old new : State) (it : RestoredStore) → new.now ≡ old.now → IsRestoredAt old it → IsRestoredAt new it
+restored_same old new it same is = record {
+  first = is.first;
+  rows = is.rows;
+  holds = holds_same old new is.first is.rows same is.holds;
+  restored = is.restored;
+  next_is = is.next_is;
+  counts = is.counts;
 }
 
 -- the row of the site after the steps stands for them, if it has the store's name and starts
@@ -90,8 +113,3 @@ all_spared old new first kept rows more holds steps spared = record {
   schema = spared.schema ∙ holds.schema;
   all = record { kept_are = subst (λ (all : List Row). Lists all first kept) (sym spared.kept) holds.all.kept_are; list_are = steps.rows };
 }
-
--- a store that was to keep rows keeps them
-pub keeps_then : (old new : State) (first : ℕ) (rows : List Stored) → Holds old first rows → (old.now.schema ≡ step_schema → HoldsAll new first [] rows) → (old.now.schema ≡ kept_schema → new.now.schema ≡ kept_schema)
-    → new.now.schema ≡ kept_schema
-keeps_then old new first rows holds made kept = ⊎_elim (λ bare. (made bare).schema) kept holds.schema

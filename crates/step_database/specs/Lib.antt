@@ -1,3 +1,4 @@
+pub mod Restored
 pub mod Standing
 pub mod Databases
 pub mod CommitFaults

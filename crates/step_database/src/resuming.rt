@@ -1,44 +1,35 @@
-//! A site that goes on over its store, which may begin to keep rows.
-ghost use Rattle.std.specs.Prelude.{◌≡◌, ◌≢◌, ◌≤◌, ◌++◌, ◌∷◌, [], ℕ, List, IfOk, IsTrue, OnOk};
-ghost use Rattle.std.specs.Prelude.{false};
+//! A start of a site over its store, which may begin to keep rows.
+ghost use Rattle.std.specs.Prelude.{◌≡◌, ◌<◌, ◌+◌, ◌++◌, ◌∷◌, [], ℕ, List, IsTrue, OnOk};
+ghost use Rattle.std.specs.Prelude.{false, length};
 ghost use Rattle.sqlite.specs.Held.{state};
 ghost use Rattle.sqlite.specs.State.{HasCleanDisk};
-ghost use Rattle.site_journal.specs.declared.journaled.TheConstants.{MOST_STEPS};
 ghost use Rattle.stored_steps.specs.StartRows.{start_row};
 ghost use Rattle.stored_steps.specs.Stored.{Stored};
 ghost use Rattle.site_store.specs.Kept.{HoldsAll};
-ghost use Rattle.site_store.specs.Resumed.{IsResumed};
-ghost use Rattle.site_store.specs.Steps.{Holds, IsStoreSchema, kept_schema};
+ghost use Rattle.site_store.specs.Steps.{Holds, IsStoreSchema, LeavesOnly, kept_schema};
 
-use dots::SiteId;
-use replica::QueueList;
-use site_store::{OpenFault, ResumedSite, keep_rows, resume};
+use site_store::{LAST_POSITION, OpenFault, add_start, keep_rows};
 use sqlite::{Alter, Connection};
 use std::alloc::Global;
 
-// The site that goes on over a connection. If `keeps`, its store keeps rows from then on. Errors,
-// in order: those of `resume`; those of `keep_rows`, after which the row of this start stands.
-pub(crate) fn resume_site<S: Alter>(
+// Adds the row of a start at this position, which is the next one. If `keeps`, the store keeps rows from then on. Errors, in order: those
+// of `add_start`; those of `keep_rows`, after which the row of the start stands.
+pub(crate) fn begin<S: Alter>(
     alloc: Global,
     conn: &mut Connection<S>,
-    site: SiteId,
-    list: &QueueList,
-    limit: u32,
+    at: u64,
     keeps: bool,
-) -> Result<ResumedSite, OpenFault>
-    requires some { 1 ≤ limit }
-    requires most { limit ≤ MOST_STEPS }
-    ensures site { IfOk result (λ it. it.site.journal.replica.site ≡ site) }
-    ensures names { IfOk result (λ it. it.site.journal.replica.names ≡ list.now) }
-    ensures limit { IfOk result (λ it. it.site.journal.limit ≡ limit) }
-    ensures found { HasCleanDisk (state S.Store conn.new)
-        → IsStoreSchema (state S.Store conn.old).now.schema
-        → IfOk result (λ it. IsResumed (state S.Store conn.new) it) }
+) -> Result<(), OpenFault>
+    requires fits { at < LAST_POSITION }
     ensures rows { HasCleanDisk (state S.Store conn.new) → (first : ℕ) (rows : List Stored)
-        → Holds (state S.Store conn.old) first rows → rows ≢ []
+        → Holds (state S.Store conn.old) first rows → at ≡ first + length rows
         → OnOk result (Holds (state S.Store conn.new) first (rows ++ start_row ∷ [])) }
-    ensures kept { HasCleanDisk (state S.Store conn.new)
-        → IsStoreSchema (state S.Store conn.old).now.schema → IsTrue keeps
+    ensures leaves { HasCleanDisk (state S.Store conn.new) → (first : ℕ) (rows : List Stored)
+        → Holds (state S.Store conn.old) first rows → at ≡ first + length rows
+        → (state S.Store conn.old).in_transaction ≡ false
+        → OnOk result (LeavesOnly (state S.Store conn.new) first (rows ++ start_row ∷ [])) }
+    ensures kept { HasCleanDisk (state S.Store conn.new) → (first : ℕ) (rows : List Stored)
+        → Holds (state S.Store conn.old) first rows → at ≡ first + length rows → IsTrue keeps
         → OnOk result ((state S.Store conn.new).now.schema ≡ kept_schema) }
     ensures schema { HasCleanDisk (state S.Store conn.new)
         → IsStoreSchema (state S.Store conn.old).now.schema → keeps ≡ false
@@ -46,19 +37,14 @@ pub(crate) fn resume_site<S: Alter>(
         ≡ (state S.Store conn.old).now.schema) }
     // The rows that the store has kept stay.
     ensures spared { HasCleanDisk (state S.Store conn.new) → (first : ℕ) (kept rows : List Stored)
-        → HoldsAll (state S.Store conn.old) first kept rows → rows ≢ []
+        → HoldsAll (state S.Store conn.old) first kept rows
+        → at ≡ first + length kept + length rows
         → OnOk result (HoldsAll (state S.Store conn.new) first kept (rows ++ start_row ∷ [])) }
     ensures clean { HasCleanDisk (state S.Store conn.new) → HasCleanDisk (state S.Store conn.old) }
 {
-    let resumed = resume(alloc, conn, site, list, limit)?;
+    add_start(alloc, conn, at)?;
     if !keeps {
-        return Ok(resumed);
+        return Ok(());
     }
-    match keep_rows(conn) {
-        Ok(()) => Ok(resumed),
-        Err(fault) => {
-            drop(resumed);
-            Err(fault)
-        }
-    }
+    keep_rows(conn)
 }

@@ -1,29 +1,23 @@
-ghost use Rattle.std.specs.Prelude.{◌≡◌, ◌≢◌, ◌≤◌, ◌++◌, ◌∷◌, [], ℕ, List, IfOk, min, ◌+◌, ◌-◌, ◌^◌};
-ghost use Rattle.std.specs.Prelude.{IsErrOf, IsTrue, false};
-ghost use Rattle.site_journal.specs.declared.journaled.TheConstants.{MOST_STEPS};
+ghost use Rattle.std.specs.Prelude.{◌≡◌, [], IfOk, min, ◌+◌, ◌-◌, ◌^◌};
+ghost use Rattle.replica.specs.Site.{IsSameSite};
 ghost use Rattle.sqlite.specs.Held.{state};
-ghost use Rattle.sqlite.specs.State.{HasCleanDisk};
-ghost use Rattle.stored_steps.specs.StartRows.{start_row};
-ghost use Rattle.stored_steps.specs.Stored.{Stored};
-ghost use Rattle.site_store.specs.Kept.{HoldsAll};
-ghost use Rattle.site_store.specs.Resumed.{IsResumed};
-ghost use Rattle.site_store.specs.Steps.{Holds, IsStoreSchema, kept_schema};
-ghost use Rattle.site_store.specs.declared.open_fault.OpenFault.{OpenFault};
 ghost use Rattle.step_database.specs.Databases.{KeepsIfClean, StoresIfClean};
+ghost use Rattle.step_database.specs.Restored.{AddsStart, IsRestored};
 
 use crate::ready_base::ReadyBase;
-use crate::resuming::resume_site;
+use crate::restoring::RestoredDatabase;
+use crate::resuming::begin;
 use crate::writing::{append_rows, grown, put_base, rows_of_steps};
-use dots::{Memory, SiteId};
-use replica::{QueueList, Replica};
-use site_journal::{Journaled, Step};
-use site_store::{OpenFault, ResumedSite, is_store_schema};
+use dots::Memory;
+use replica::Replica;
+use site_journal::Step;
+use site_store::OpenFault;
 use sqlite::{Alter, Connection};
 use std::alloc::Global;
 use std::marker::Model;
 use std::snapshot::Snapshot;
 use stored_desk::{CommitFault, Growth, StepStore};
-use stored_steps::{NAME_BYTES, RestoredSite, StoredRow, row_of_base};
+use stored_steps::{NAME_BYTES, StoredRow, row_of_base};
 
 /// The store of a site since its last start, in an SQLite database. Its rows are a base, the rows from before that start, and those of the
 /// steps since. Statuses, refused commands and cuts of an empty buffer have no row (this project's own).
@@ -59,101 +53,55 @@ impl<S: Alter + Drop> Model for StepDatabase<S> {
 }
 
 impl<S: Alter + Drop> StepDatabase<S> {
-    /// The store of a site that goes on, and the site's journal: `conn` is the connection over which `resume` of `site_store` has returned
-    /// `resumed`. The store has no step yet, and its steps are those that the site does from here on.
-    pub fn new(
-        alloc: Global,
-        conn: Connection<S>,
-        resumed: ResumedSite,
-    ) -> (StepDatabase<S>, Journaled)
-        requires resumed { HasCleanDisk (state S.Store conn)
-            → IsResumed (state S.Store conn) resumed }
-        ensures journal { result.1 ≡ resumed.site.journal }
-        ensures begun { result.0.origin.begun ≡ result.1.replica }
-        ensures name { result.0.origin.name ≡ resumed.site.name }
-        ensures starts { result.0.origin.starts ≡ min (resumed.site.starts + 1) (2 ^ 64 - 1) }
-        ensures conn { result.0.conn ≡ conn }
-        ensures holds { StoresIfClean (state S.Store result.0.conn) result.0.origin result.0.next [] }
-        ensures keeps { KeepsIfClean (state S.Store result.0.conn) result.0.origin [] }
-    {
-        let ResumedSite {
-            site,
-            next,
-            rows,
-            bytes,
-        } = resumed;
-        let RestoredSite {
-            journal,
-            name,
-            starts,
-        } = site;
-        let store = StepDatabase {
-            conn,
-            begun: Snapshot::of(journal.replica()),
-            name,
-            starts: starts.saturating_add(1),
-            next,
-            growth: Growth { rows, bytes },
-            alloc,
-        };
-        (store, journal)
-    }
-
-    /// The store of a site that goes on over a connection, and the site's journal, which may have `limit` steps, 1 to 1,000,000. The row of
-    /// this start is added, in a commit of its own. If `keeps`, the store keeps from then on the rows in whose place a base is put; else it
-    /// does so only if it has begun to.
+    /// A start of a restored site: its store, and what the site says then. The row of the start is added, in a commit of its own. The store
+    /// has no step yet, and its steps are those that the site does from here on. If `keeps`, the store keeps from then on the rows in whose
+    /// place a base is put, by another commit; else it does so only if it has begun to.
     ///
-    /// Errors, each of which drops the connection, in order: `NoStore`, if the database hasn't the tables of a store; those of `resume` of
-    /// `site_store`; those of its `keep_rows`, after which the row of this start stands.
+    /// Errors, each of which drops the connection, in order: those of `add_start` of `site_store`, after which the row of the start may
+    /// stand; those of its `keep_rows`, after which it stands.
     pub fn resume(
-        alloc: Global,
-        conn: Connection<S>,
-        site: SiteId,
-        list: &QueueList,
-        limit: u32,
+        restored: RestoredDatabase<S>,
         keeps: bool,
-    ) -> Result<(StepDatabase<S>, Journaled), OpenFault>
-        requires some { 1 ≤ limit }
-        requires most { limit ≤ MOST_STEPS }
-        ensures site { IfOk result (λ it. it.1.replica.site ≡ site) }
-        ensures names { IfOk result (λ it. it.1.replica.names ≡ list.now) }
-        ensures limit { IfOk result (λ it. it.1.limit ≡ limit) }
-        ensures no_store { (IsStoreSchema (state S.Store conn).now.schema → ⊥)
-            → IsErrOf result OpenFault.NoStore }
-        ensures begun { IfOk result (λ it. it.0.origin.begun ≡ it.1.replica) }
-        ensures rows { IfOk result (λ it. HasCleanDisk (state S.Store it.0.conn)
-            → (first : ℕ) (rows : List Stored)
-            → Holds (state S.Store conn) first rows → rows ≢ []
-            → Holds (state S.Store it.0.conn) first (rows ++ start_row ∷ [])) }
-        ensures kept { IfOk result (λ it. HasCleanDisk (state S.Store it.0.conn) → IsTrue keeps
-            → (state S.Store it.0.conn).now.schema ≡ kept_schema) }
-        ensures schema { IfOk result (λ it. HasCleanDisk (state S.Store it.0.conn)
-            → keeps ≡ false
-            → (state S.Store it.0.conn).now.schema ≡ (state S.Store conn).now.schema) }
-        // The rows that the store has kept stay.
-        ensures spared { IfOk result (λ it. HasCleanDisk (state S.Store it.0.conn)
-            → (first : ℕ) (kept rows : List Stored)
-            → HoldsAll (state S.Store conn) first kept rows → rows ≢ []
-            → HoldsAll (state S.Store it.0.conn) first kept (rows ++ start_row ∷ [])) }
-        ensures clean { IfOk result (λ it. HasCleanDisk (state S.Store it.0.conn)
-            → HasCleanDisk (state S.Store conn)) }
+    ) -> Result<(StepDatabase<S>, Replica), OpenFault>
+        requires restored { IsRestored (state S.Store restored.conn) restored }
+        ensures replica { IfOk result (λ it. it.1 ≡ restored.replica) }
+        ensures begun { IfOk result (λ it. IsSameSite it.0.origin.begun it.1) }
+        ensures name { IfOk result (λ it. it.0.origin.name ≡ restored.name) }
+        ensures starts { IfOk result (λ it.
+            it.0.origin.starts ≡ min (restored.starts + 1) (2 ^ 64 - 1)) }
+        ensures adds { IfOk result (λ it.
+            AddsStart keeps (state S.Store restored.conn) (state S.Store it.0.conn)) }
         ensures holds { IfOk result (λ it.
             StoresIfClean (state S.Store it.0.conn) it.0.origin it.0.next []) }
         ensures keeps { IfOk result (λ it.
             KeepsIfClean (state S.Store it.0.conn) it.0.origin []) }
     {
+        let RestoredDatabase {
+            conn,
+            replica,
+            begun,
+            name,
+            starts,
+            next,
+            growth,
+            alloc,
+        } = restored;
         let mut conn = conn;
-        if !is_store_schema(conn.schema()) {
+        if let Err(fault) = begin(alloc, &mut conn, next, keeps) {
             drop(conn);
-            return Err(OpenFault::NoStore);
+            drop(replica);
+            return Err(fault);
         }
-        match resume_site(alloc, &mut conn, site, list, limit, keeps) {
-            Ok(resumed) => Ok(StepDatabase::new(alloc, conn, resumed)),
-            Err(fault) => {
-                drop(conn);
-                Err(fault)
-            }
-        }
+        let store = StepDatabase {
+            conn,
+            begun,
+            name,
+            starts: starts.saturating_add(1),
+            next: next + 1,
+            growth,
+            alloc,
+        };
+        Ok((store, replica))
     }
 
     /// The bytes that name the store for ever.

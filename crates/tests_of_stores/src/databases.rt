@@ -1,4 +1,6 @@
 //! A site in a database in memory, and what it does.
+ghost use Rattle.std.specs.Prelude.{◌≤◌};
+
 use crate::asks::add;
 use crate::shared::sales_list;
 use dots::SiteId;
@@ -9,7 +11,7 @@ use sqlite::{Connection, MemStore};
 use status_report::Ask;
 use std::alloc::Global;
 use std::process::Abort;
-use step_database::StepDatabase;
+use step_database::{RestoredDatabase, StepDatabase};
 use stored_desk::StepStore;
 use stored_steps::{StoredRow, row_of_base};
 
@@ -38,19 +40,34 @@ pub(crate) fn database(rt: &impl Abort, alloc: Global) -> Connection<MemStore> {
     conn
 }
 
-// The site that goes on over a database, with its store.
+// A start of the site in a database, with its store. While its steps are done again this number of them is in memory.
+pub(crate) fn resumed_within(
+    rt: &impl Abort,
+    alloc: Global,
+    conn: Connection<MemStore>,
+    limit: u32,
+) -> (Database, Replica)
+    requires some { 1 ≤ limit }
+    requires most { limit ≤ 10 }
+{
+    let list = sales_list(rt, alloc);
+    let restored = RestoredDatabase::restore(alloc, conn, site(rt), &list, limit);
+    drop(list);
+    match restored {
+        Ok(restored) => StepDatabase::resume(restored, false)
+            .ok()
+            .expect(rt, "a start"),
+        Err(_) => panic!(*rt; "no store"),
+    }
+}
+
+// A start of the site in a database, with its store.
 pub(crate) fn resumed(
     rt: &impl Abort,
     alloc: Global,
     conn: Connection<MemStore>,
 ) -> (Database, Replica) {
-    let list = sales_list(rt, alloc);
-    let resumed = StepDatabase::resume(alloc, conn, site(rt), &list, 10, false);
-    drop(list);
-    let (store, journal) = resumed.ok().expect(rt, "a store");
-    let replica = journal.replica().copy().expect(rt, "memory");
-    drop(journal);
-    (store, replica)
+    resumed_within(rt, alloc, conn, 10)
 }
 
 // Asks a site by pass 2.

@@ -1,7 +1,8 @@
 //! Stores that keep the rows in whose place a base is put.
-use crate::shared::{ADD, SECOND_ADD, base_row, put, replace, sales_list, site_0};
+use crate::shared::{ADD, SECOND_ADD, base_row, put, replace, sales_list, site_0, start};
 use site_store::{
-    create, is_step_schema, is_store_schema, keep_rows, keeps_rows, read_all, read_history, resume,
+    create, is_step_schema, is_store_schema, keep_rows, keeps_rows, read_all, read_history,
+    restore_site,
 };
 use sqlite::{Connection, MemStore};
 use std::alloc::Global;
@@ -81,12 +82,13 @@ fn a_site_goes_on_over_a_store_that_keeps_rows(rt: HostRuntime) {
     replace(&rt, alloc, &mut store, 2);
     put(&rt, alloc, &mut store, 3, SECOND_ADD);
     let list = sales_list(&rt, alloc);
-    let site = resume(alloc, &mut store, site_0(&rt), &list, 10)
+    let site = restore_site(alloc, &mut store, site_0(&rt), &list, 10)
         .ok()
         .expect(&rt, "a site");
     drop(list);
-    assert!(rt; site.next == 5 && site.rows == 2 && site.site.journal.steps().len() == 1);
+    assert!(rt; site.next == 4 && site.rows == 2 && site.site.journal.steps().len() == 1);
     drop(site);
+    start(&rt, alloc, &mut store, 4);
     assert_history(&rt, alloc, &mut store, 0, &[1, 2, 1, 2, 6]);
     drop(store.into_store());
 }

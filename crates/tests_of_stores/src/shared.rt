@@ -3,7 +3,7 @@ ghost use Rattle.std.specs.Prelude.{◌<◌};
 
 use dots::{Bytes, Interface, Label, Penalty, QueueName, SiteId, Text80};
 use replica::{Command, QueueList, Replica};
-use site_store::{append, replace_base};
+use site_store::{add_start, append, replace_base};
 use sqlite::{Alter, Connection};
 use std::alloc::Global;
 use std::process::Abort;
@@ -102,6 +102,13 @@ pub(crate) fn put<S: Alter>(
     let row = add_row(rt, alloc, digits);
     assert!(*rt; append(store, at, &row) == Ok(1));
     drop(row);
+}
+
+// Adds the row of a start to a store.
+pub(crate) fn start<S: Alter>(rt: &impl Abort, alloc: Global, store: &mut Connection<S>, at: u64)
+    requires { at < 100 }
+{
+    assert!(*rt; add_start(alloc, store, at) == Ok(()));
 }
 
 // Puts a base in the place of all rows of a store.

@@ -1,8 +1,12 @@
 //! Stores over a database in memory.
-use crate::shared::{ADD, NAME, SECOND_ADD, THIRD_ADD, add_row, base_row, put, sales_list, site_0};
+ghost use Rattle.std.specs.Prelude.{◌<◌};
+
+use crate::shared::{
+    ADD, NAME, SECOND_ADD, THIRD_ADD, add_row, base_row, put, sales_list, site_0, start,
+};
 use site_store::{
-    Listed, OpenFault, ResumedSite, append_all, create, is_blank_schema, is_step_schema, read_all,
-    replace_base, resume,
+    Listed, OpenFault, RestoredStore, append_all, create, is_blank_schema, is_step_schema,
+    read_all, replace_base, restore_site,
 };
 use sqlite::{Connection, MemStore};
 use std::alloc::Global;
@@ -74,16 +78,16 @@ fn assert_rows(rt: &impl Abort, alloc: Global, store: &mut Store, first: u64, ki
 }
 
 // Site 0 of a store. Its journal may have 10 steps.
-fn resumed(rt: &impl Abort, alloc: Global, store: &mut Store) -> Result<ResumedSite, OpenFault> {
+fn restored(rt: &impl Abort, alloc: Global, store: &mut Store) -> Result<RestoredStore, OpenFault> {
     let list = sales_list(rt, alloc);
-    let resumed = resume(alloc, store, site_0(rt), &list, 10);
+    let restored = restore_site(alloc, store, site_0(rt), &list, 10);
     drop(list);
-    resumed
+    restored
 }
 
-// Why a site does not go on over a store.
+// Why a store has no site.
 fn fault_of(rt: &impl Abort, alloc: Global, store: &mut Store) -> Option<OpenFault> {
-    match resumed(rt, alloc, store) {
+    match restored(rt, alloc, store) {
         Ok(site) => {
             drop(site);
             None
@@ -92,12 +96,15 @@ fn fault_of(rt: &impl Abort, alloc: Global, store: &mut Store) -> Option<OpenFau
     }
 }
 
-// Asserts how often a site was started before, and the position of its next row. It did 3 steps.
-fn assert_resumes(rt: &impl Abort, alloc: Global, store: &mut Store, starts: u64, next: u64) {
-    let it = resumed(rt, alloc, store).expect(rt, "a site");
+// Asserts how often a site was started, and the position of its next row, and starts it. It did 3 steps.
+fn assert_starts(rt: &impl Abort, alloc: Global, store: &mut Store, starts: u64, next: u64)
+    requires { next < 100 }
+{
+    let it = restored(rt, alloc, store).expect(rt, "a site");
     assert!(*rt; it.next == next && it.site.starts == starts && it.site.name == NAME);
     assert!(*rt; it.site.journal.steps().len() == 3);
     drop(it);
+    start(rt, alloc, store, next);
 }
 
 #[test]
@@ -106,8 +113,8 @@ fn a_site_goes_on_over_its_store(rt: HostRuntime) {
     let mut store = new_store(&rt, alloc);
     put(&rt, alloc, &mut store, 6, ADD);
     put_two(&rt, alloc, &mut store);
-    assert_resumes(&rt, alloc, &mut store, 3, 10);
-    assert_resumes(&rt, alloc, &mut store, 4, 11);
+    assert_starts(&rt, alloc, &mut store, 3, 9);
+    assert_starts(&rt, alloc, &mut store, 4, 10);
     assert_rows(&rt, alloc, &mut store, 5, &[1, 2, 2, 2, 6, 6]);
     assert!(rt; replaced(&rt, alloc, &mut store));
     assert_rows(&rt, alloc, &mut store, 20, &[1]);

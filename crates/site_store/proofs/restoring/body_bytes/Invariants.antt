@@ -1,6 +1,6 @@
 use Rattle.std.proofs.Common.{◌≡◌, ◌-◌, ◌^◌, min, sum_by, take}
-use Rattle.site_store.specs.Resumed.{body_bytes}
-use Rattle.site_store.proofs.resuming.body_bytes.Given as goal
+use Rattle.site_store.specs.Restored.{body_bytes}
+use Rattle.site_store.proofs.restoring.body_bytes.Given as goal
 
 -- the bytes of the rows up to this one
 abbrev pub invariant-loop-row : goal.invariant-loop-row

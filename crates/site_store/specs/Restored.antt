@@ -1,13 +1,12 @@
--- A site that goes on over the rows that a connection holds.
-use Rattle.std.specs.Prelude.{◌≡◌, ℕ, ◌+◌, ◌-◌, ◌^◌, ◌++◌, List, [], ◌∷◌, ⊤, IfErr, Result, drop, length, min, sum_by}
+-- The site of the rows that a connection holds.
+use Rattle.std.specs.Prelude.{◌≡◌, ℕ, ◌+◌, ◌-◌, ◌^◌, List, ⊤, IfErr, Result, drop, length, min, sum_by}
 use Rattle.sqlite.specs.State.{HasCleanDisk, IsUnchanged, State}
 use Rattle.stored_steps.specs.Restoring.{IsRestoredSite}
-use Rattle.stored_steps.specs.StartRows.{start_row}
 use Rattle.stored_steps.specs.Stored.{Stored}
 use Rattle.site_store.specs.declared.open_fault.OpenFault.{OpenFault}
 use Rattle.site_store.specs.declared.open_fault.OpenFault.TheVariants.{Blank, CannotOpen, Damaged, Database, Gap, InTransaction, InUse, Memory, NoStore, Site}
-use Rattle.site_store.specs.declared.resuming.ResumedSite.{ResumedSite}
-use Rattle.site_store.specs.Steps.{Holds, IsStoreSchema, LeavesOnly}
+use Rattle.site_store.specs.declared.restoring.RestoredStore.{RestoredStore}
+use Rattle.site_store.specs.Steps.{Holds, IsStoreSchema}
 
 -- rows are refused: a position is missing, or they are no store of the site
 abbrev pub IsOfRows : OpenFault → Type 0
@@ -31,26 +30,16 @@ KeepsRefusedRows old new result =
 abbrev pub body_bytes : Stored → ℕ
 body_bytes row = length row.bytes
 
--- a site knows how many of these rows stand behind the base, with that of its start, which has no bytes, and how many bytes they have
-pub record CountsRows (rows : List Stored) (it : ResumedSite) : Type 0 where
+-- these rows are counted, and the bytes of those behind the base
+pub record CountsRows (rows : List Stored) (it : RestoredStore) : Type 0 where
   pub rows_are : it.rows ≡ length rows
   pub bytes_are : it.bytes ≡ min (sum_by body_bytes (drop 1 rows)) (2 ^ 64 - 1)
 
 -- a connection holds the rows of which the site was restored, and `next` is the position of the next row
-pub record IsRestoredAt (s : State) (it : ResumedSite) : Type 0 where
+pub record IsRestoredAt (s : State) (it : RestoredStore) : Type 0 where
   pub first : ℕ
   pub rows : List Stored
   pub holds : Holds s first rows
   pub restored : IsRestoredSite rows it.site
   pub next_is : it.next ≡ first + length rows
   pub counts : CountsRows rows it
-
--- a connection holds the rows of which the site was restored, and then the row of a start; a crash leaves these
-pub record IsResumed (s : State) (it : ResumedSite) : Type 0 where
-  pub first : ℕ
-  pub rows : List Stored
-  pub restored : IsRestoredSite rows it.site
-  pub next_is : it.next ≡ first + length rows + 1
-  pub counts : CountsRows rows it
-  pub holds : Holds s first (rows ++ start_row ∷ [])
-  pub leaves : LeavesOnly s first (rows ++ start_row ∷ [])

@@ -2,8 +2,8 @@ use Rattle.std.proofs.Common.{◌≡◌, ◌+◌, ◌-◌, ◌^◌, ◌<◌, ◌
 use Rattle.std.proofs.lemmas.List.{take_more}
 use Rattle.std.proofs.lemmas.List.Sums.{sum_by-append, sum_by-cons}
 use Rattle.stored_steps.specs.Stored.{Stored}
-use Rattle.site_store.specs.Resumed.{body_bytes}
-use Rattle.site_store.proofs.resuming.body_bytes.Goals as goal
+use Rattle.site_store.specs.Restored.{body_bytes}
+use Rattle.site_store.proofs.restoring.body_bytes.Goals as goal
 
 -- the bytes of one row more
 one_more : (rows : List Stored) (i : ℕ) (row : Stored) (before size after : ℕ) → i < length rows → row ≡ get_or rows i row → before ≡ min (sum_by body_bytes (take i rows)) (2 ^ 64 - 1) → size ≡ length row.bytes

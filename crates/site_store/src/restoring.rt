@@ -1,20 +1,19 @@
-//! A site that goes on over its store.
-ghost use Rattle.std.specs.Prelude.{◌≡◌, ◌≢◌, ◌≤◌, ◌<◌, ◌^◌, ◌+◌, ◌-◌, ◌++◌, ◌∷◌, [], ℕ, List};
-ghost use Rattle.std.specs.Prelude.{Err, IfErr, IfOk, IsTrue, OnOk, drop, false, length, min};
+//! The site of a store, and a start of it.
+ghost use Rattle.std.specs.Prelude.{◌≡◌, ◌≤◌, ◌<◌, ◌^◌, ◌+◌, ◌-◌, ◌++◌, ◌∷◌, [], ℕ, List};
+ghost use Rattle.std.specs.Prelude.{Err, IfErr, IfOk, IsTrue, OnErr, OnOk, drop, false, length, min};
 ghost use Rattle.std.specs.Prelude.{sum_by};
 ghost use Rattle.sqlite.specs.Held.{state};
 ghost use Rattle.sqlite.specs.State.{HasCleanDisk};
 ghost use Rattle.site_journal.specs.declared.journaled.TheConstants.{MOST_STEPS};
-ghost use Rattle.stored_steps.specs.Restoring.{IsRestoredSite};
 ghost use Rattle.stored_steps.specs.StartRows.{start_row};
 ghost use Rattle.stored_steps.specs.Stored.{Stored};
 ghost use Rattle.site_store.specs.declared.open_fault.OpenFault.{OpenFault};
 ghost use Rattle.site_store.specs.Kept.{SparesKeptAtOk};
 ghost use Rattle.site_store.specs.OpenFaults.{site_fault};
-ghost use Rattle.site_store.specs.Steps.{CommitsSteps, Holds, IsIdle, IsStoreSchema, LeavesOnly};
-ghost use Rattle.site_store.specs.Steps.{OnlyReads};
-ghost use Rattle.site_store.specs.Resumed.{IsOfRows, IsRestoredAt, IsResumed, KeepsRefusedRows};
-ghost use Rattle.site_store.specs.Resumed.{body_bytes};
+ghost use Rattle.site_store.specs.Steps.{CommitsNothing, CommitsSteps, Holds, IsIdle, IsInside};
+ghost use Rattle.site_store.specs.Steps.{IsStoreSchema, LeavesOnly, OnlyReads};
+ghost use Rattle.site_store.specs.Restored.{IsOfRows, IsRestoredAt, KeepsRefusedRows};
+ghost use Rattle.site_store.specs.Restored.{body_bytes};
 
 use crate::OpenFault;
 use crate::open_fault::open_fault;
@@ -30,16 +29,16 @@ use stored_steps::{RestoredSite, StoreFault, StoredRow, restore};
 /// The last position that a row of a store may have, 2^63 - 1 (this project's own).
 pub const LAST_POSITION: u64 = (1 << 63) - 1;
 
-/// A site that goes on over its store.
+/// The site of a store, and how much the store holds.
 #[derive(Drop)]
-pub struct ResumedSite {
-    /// The site, its store's name, and how often it was started before.
+pub struct RestoredStore {
+    /// The site, its store's name, and how often it was started.
     pub site: RestoredSite,
-    /// The position of the next row.
+    /// The position of the next row, at most 2^63 - 2.
     pub next: u64,
-    /// How many rows the store has since its base, that of this start included.
+    /// How many rows the table of steps has, the base included.
     pub rows: u64,
-    /// How many bytes the bodies of these rows have, at most 2^64 - 1.
+    /// How many bytes the bodies of the rows behind the base have, at most 2^64 - 1.
     pub bytes: u64,
 }
 
@@ -77,9 +76,6 @@ fn bytes_since_base(rows: &[StoredRow]) -> u64
 // The rows of a store. What the database holds stays. Errors, in order: those of the database, as `open` has them; `Gap`, if a position is
 // missing between two rows, or two more rows have no positions up to `LAST_POSITION`.
 fn listed_rows<S: Alter>(alloc: Global, conn: &mut Connection<S>) -> Result<Listed, OpenFault>
-    ensures listed { HasCleanDisk (state S.Store conn.new) → (first : ℕ) (rows : List Stored)
-        → Holds (state S.Store conn.old) first rows → rows ≢ []
-        → IfOk result (λ it. (it.first ≡ first) × (it.steps.items ≡ rows)) }
     // Whatever rows the connection holds, these are they.
     ensures found { HasCleanDisk (state S.Store conn.new)
         → IsStoreSchema (state S.Store conn.old).now.schema
@@ -104,31 +100,40 @@ fn listed_rows<S: Alter>(alloc: Global, conn: &mut Connection<S>) -> Result<List
     Ok(listed)
 }
 
-// The site that the rows of a store make, before the row of its start is added. What the database holds stays. Errors, in order: those of
-// `listed_rows`; `Site`, with the fault of `restore`; `Memory`.
-fn restore_rows<S: Alter>(
+/// The site that the rows of a store make. Its journal may have `limit` steps, 1 to 1,000,000. At Ok, and where rows are refused, what the
+/// database holds stays; nothing is committed.
+///
+/// Errors, in order: `InTransaction`, if a transaction is open, and then nothing is done; those of the database, as `open` has them; `Gap`,
+/// if a position is missing, or fewer than two are left; `Site`, with the fault of `restore`. `Memory` may replace each but
+/// `InTransaction`.
+pub fn restore_site<S: Alter>(
     alloc: Global,
     conn: &mut Connection<S>,
     site: SiteId,
     list: &QueueList,
     limit: u32,
-) -> Result<ResumedSite, OpenFault>
+) -> Result<RestoredStore, OpenFault>
     requires some { 1 ≤ limit }
     requires most { limit ≤ MOST_STEPS }
-    ensures restored { HasCleanDisk (state S.Store conn.new) → (first : ℕ) (rows : List Stored)
-        → Holds (state S.Store conn.old) first rows → rows ≢ []
-        → IfOk result (λ it. IsRestoredSite rows it.site × (it.next ≡ first + length rows)) }
-    ensures found { HasCleanDisk (state S.Store conn.new)
+    // Whatever rows the connection holds, the site is that of these rows.
+    ensures restored { HasCleanDisk (state S.Store conn.new)
         → IsStoreSchema (state S.Store conn.old).now.schema
         → IfOk result (λ it. IsRestoredAt (state S.Store conn.old) it) }
+    ensures outside { OnOk result ((state S.Store conn.old).in_transaction ≡ false) }
     ensures reads { OnlyReads IsStoreSchema
         (state S.Store conn.old) (state S.Store conn.new) result }
     ensures unchanged { KeepsRefusedRows (state S.Store conn.old) (state S.Store conn.new) result }
+    // A further row, and one more, have a position.
     ensures fits { IfOk result (λ it. it.next < LAST_POSITION) }
     ensures site { IfOk result (λ it. it.site.journal.replica.site ≡ site) }
     ensures names { IfOk result (λ it. it.site.journal.replica.names ≡ list.now) }
     ensures limit { IfOk result (λ it. it.site.journal.limit ≡ limit) }
+    ensures refused { IsTrue (state S.Store conn.old).in_transaction
+        → (result ≡ Err OpenFault.InTransaction) × (conn.new ≡ conn.old) }
 {
+    if !conn.is_autocommit() {
+        return Err(OpenFault::InTransaction);
+    }
     let listed = listed_rows(alloc, conn)?;
     let rows = listed.steps.len() as u64;
     let next = listed.first + rows;
@@ -143,7 +148,7 @@ fn restore_rows<S: Alter>(
     );
     drop(listed);
     match restored {
-        Ok(site) => Ok(ResumedSite {
+        Ok(site) => Ok(RestoredStore {
             site,
             next,
             rows,
@@ -153,13 +158,23 @@ fn restore_rows<S: Alter>(
     }
 }
 
-// Adds the row of a start at this position, in a commit of its own where no transaction is open. Errors: `Memory`; those of the database,
-// as `open` has them, which leave the rows as those of `append` do.
-fn add_start<S: Alter>(alloc: Global, conn: &mut Connection<S>, at: u64) -> Result<(), OpenFault>
+/// Adds the row of a start at this position, which is the next one, at most 2^63 - 2, and commits it where no transaction is open. Errors:
+/// `Memory`; those of the database, as `open` has them. Outside a transaction the rows are then as before while the connection is open.
+pub fn add_start<S: Alter>(
+    alloc: Global,
+    conn: &mut Connection<S>,
+    at: u64,
+) -> Result<(), OpenFault>
     requires fits { at < LAST_POSITION }
     ensures added { HasCleanDisk (state S.Store conn.new) → (first : ℕ) (rows : List Stored)
         → Holds (state S.Store conn.old) first rows → at ≡ first + length rows
         → OnOk result (Holds (state S.Store conn.new) first (rows ++ start_row ∷ [])) }
+    ensures kept { HasCleanDisk (state S.Store conn.new) → (first : ℕ) (rows : List Stored)
+        → Holds (state S.Store conn.old) first rows
+        → (state S.Store conn.old).in_transaction ≡ false
+        → (state S.Store conn.old).committed ≡ (state S.Store conn.old).now
+        → OnErr result (IsTrue (state S.Store conn.new).is_open
+        → Holds (state S.Store conn.new) first rows) }
     ensures durable { HasCleanDisk (state S.Store conn.new) → (first : ℕ) (rows : List Stored)
         → Holds (state S.Store conn.old) first rows → at ≡ first + length rows
         → (state S.Store conn.old).in_transaction ≡ false
@@ -172,7 +187,14 @@ fn add_start<S: Alter>(alloc: Global, conn: &mut Connection<S>, at: u64) -> Resu
         → Holds (state S.Store conn.old) first rows → at ≡ first + length rows
         → CommitsSteps (state S.Store conn.old) (state S.Store conn.new)
         first (rows ++ start_row ∷ []) }
+    // Within a transaction nothing is committed.
+    ensures inside { HasCleanDisk (state S.Store conn.new) → (first : ℕ) (rows : List Stored)
+        → Holds (state S.Store conn.old) first rows → IsTrue (state S.Store conn.old).in_transaction
+        → OnOk result (IsInside (state S.Store conn.old) (state S.Store conn.new))
+        × CommitsNothing (state S.Store conn.old) (state S.Store conn.new) }
+    // The kept rows stay.
     ensures spared { SparesKeptAtOk (state S.Store conn.old) (state S.Store conn.new) result }
+    // The fault is neither `Gap` nor `Site`.
     ensures fault { IfErr result (λ fault. IsOfRows fault → ⊥) }
     ensures clean { HasCleanDisk (state S.Store conn.new) → HasCleanDisk (state S.Store conn.old) }
 {
@@ -185,60 +207,4 @@ fn add_start<S: Alter>(alloc: Global, conn: &mut Connection<S>, at: u64) -> Resu
         Ok(_) => Ok(()),
         Err(error) => Err(open_fault(error)),
     }
-}
-
-/// Builds a site again of the rows of its store, and adds the row of this start in a commit of its own. Its journal may have `limit` steps,
-/// 1 to 1,000,000.
-///
-/// Errors, in order: `InTransaction`, if a transaction is open, and then nothing is done; those of the database, as `open` has them; `Gap`,
-/// if a position is missing, or fewer than two are left; `Site`, with the fault of `restore`; and those of the database again, where the
-/// row of the start is added. `Memory` may replace each but `InTransaction`.
-pub fn resume<S: Alter>(
-    alloc: Global,
-    conn: &mut Connection<S>,
-    site: SiteId,
-    list: &QueueList,
-    limit: u32,
-) -> Result<ResumedSite, OpenFault>
-    requires some { 1 ≤ limit }
-    requires most { limit ≤ MOST_STEPS }
-    ensures resumed { HasCleanDisk (state S.Store conn.new) → (first : ℕ) (rows : List Stored)
-        → Holds (state S.Store conn.old) first rows → rows ≢ []
-        → IfOk result (λ it. IsRestoredSite rows it.site × (it.next ≡ first + length rows + 1)
-        × Holds (state S.Store conn.new) first (rows ++ start_row ∷ [])
-        × LeavesOnly (state S.Store conn.new) first (rows ++ start_row ∷ [])) }
-    // Whatever rows the connection held, the site is that of these rows.
-    ensures found { HasCleanDisk (state S.Store conn.new)
-        → IsStoreSchema (state S.Store conn.old).now.schema
-        → IfOk result (λ it. IsResumed (state S.Store conn.new) it) }
-    ensures site { IfOk result (λ it. it.site.journal.replica.site ≡ site) }
-    ensures names { IfOk result (λ it. it.site.journal.replica.names ≡ list.now) }
-    ensures limit { IfOk result (λ it. it.site.journal.limit ≡ limit) }
-    // A further row has a position.
-    ensures fits { IfOk result (λ it. it.next < 2 ^ 63) }
-    ensures idle { HasCleanDisk (state S.Store conn.new) → (first : ℕ) (rows : List Stored)
-        → Holds (state S.Store conn.old) first rows
-        → OnOk result (IsIdle (state S.Store conn.new)) }
-    ensures refused { IsTrue (state S.Store conn.old).in_transaction
-        → (result ≡ Err OpenFault.InTransaction) × (conn.new ≡ conn.old) }
-    ensures crash { HasCleanDisk (state S.Store conn.new) → (first : ℕ) (rows : List Stored)
-        → Holds (state S.Store conn.old) first rows → rows ≢ []
-        → CommitsSteps (state S.Store conn.old) (state S.Store conn.new)
-        first (rows ++ start_row ∷ []) }
-    // The kept rows stay.
-    ensures spared { SparesKeptAtOk (state S.Store conn.old) (state S.Store conn.new) result }
-    // Rows that make no site stay as they are.
-    ensures unchanged { KeepsRefusedRows (state S.Store conn.old) (state S.Store conn.new) result }
-    ensures clean { HasCleanDisk (state S.Store conn.new) → HasCleanDisk (state S.Store conn.old) }
-{
-    if !conn.is_autocommit() {
-        return Err(OpenFault::InTransaction);
-    }
-    let mut resumed = restore_rows(alloc, conn, site, list, limit)?;
-    if let Err(fault) = add_start(alloc, conn, resumed.next) {
-        drop(resumed);
-        return Err(fault);
-    }
-    resumed.next += 1;
-    Ok(resumed)
 }
