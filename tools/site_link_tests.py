@@ -43,6 +43,7 @@ SLOW, WINDOW, BOX, NEWS = 30_000, 262_144, 1_048_576, 6
 QUEUES = ("sales", "support")
 # Why a site ends of whose number others have frames that it hasn't made.
 NOT_MINE = "rolled back: another site has frames under this site's number that this site has not made"
+COPIED = "the store was copied: another process has this start of it"
 CONFLICT = "other sites have other values under numbers of changes that this site knows"
 # How a connection is ended with a reset.
 RESET = struct.pack("ii", 1, 0)
@@ -219,7 +220,7 @@ class Proxy:
         """What goes now of these bytes, and those that wait until they are whole."""
         goes = b""
         while True:
-            # Behind both hellos: 37 and 90 bytes forth, 126 and 33 back.
+            # After both hellos: 37 and 106 bytes forth, 142 and 33 back.
             size = 4 + int.from_bytes(held[:4], "big") + 16 if is_forth else 24
             if len(held) < 4 or len(held) < size:
                 return goes, held
@@ -227,7 +228,7 @@ class Proxy:
 
     def carry(self, one, other, is_forth):
         """Copies bytes from one connection to the other."""
-        hello, held, due = 127 if is_forth else 159, b"", 0
+        hello, held, due = 143 if is_forth else 175, b"", 0
         with contextlib.suppress(OSError):
             while True:
                 piece = one.recv(1_024 if self.rate else 65_536)
@@ -527,18 +528,19 @@ class Peer:
 
     began = None
 
-    def __init__(self, connection, number, is_dialer=True, shared=SHARED, queues=QUEUES, store=None, starts=1, version=1):
+    def __init__(self, connection, number, is_dialer=True, shared=SHARED, queues=QUEUES, store=None, starts=1, process=None, version=2):
         self.socket, self.number, self.counter, self.is_dialer = connection, number, 0, is_dialer
         self.socket.settimeout(PATIENCE)
         self.key = hashlib.sha256(shared.encode()).digest()
         digest = hashlib.sha256(b"".join(bytes([len(it)]) + it.encode() for it in queues)).digest()
-        card = bytes([number]) + (store or os.urandom(16)) + starts.to_bytes(8, "big") + digest
+        store = store or os.urandom(16)
+        card = bytes([number]) + store + starts.to_bytes(8, "big") + (process or store) + digest
         nonce = os.urandom(32)
         self.send(b"QSLK" + bytes([version]) + nonce)
         self.meet_acceptor(nonce, card) if is_dialer else self.meet_dialer(nonce, card)
 
     def code(self, label, *parts):
-        return hmac.new(self.key, b"queue sites link 1, " + label + b"".join(parts), hashlib.sha256).digest()
+        return hmac.new(self.key, b"queue sites link 2, " + label + b"".join(parts), hashlib.sha256).digest()
 
     def send(self, given):
         self.socket.sendall(given)
@@ -552,11 +554,11 @@ class Peer:
         return read
 
     def meet_acceptor(self, nonce, card):
-        came = self.read(5 + 32 + 57 + 32)
-        their_nonce, their_card, code = came[5:37], came[37:94], came[94:]
+        came = self.read(5 + 32 + 73 + 32)
+        their_nonce, their_card, code = came[5:37], came[37:110], came[110:]
         if self.code(b"accepts", nonce, their_nonce, their_card) != code:
             # It has another secret, and would refuse this one.
-            their_card = their_card or bytes(57)
+            their_card = their_card or bytes(73)
         both = nonce + their_nonce + their_card + card
         self.send(b"\0" + card + self.code(b"dials", both, b"\0"))
         answer = self.read(33)
@@ -568,10 +570,10 @@ class Peer:
     def meet_dialer(self, nonce, card):
         their_nonce = self.read(37)[5:]
         self.send(card + self.code(b"accepts", their_nonce, nonce, card))
-        came = self.read(1 + 57 + 32)
-        self.verdict, both = came[0] if came else None, their_nonce + nonce + card + came[1:58]
+        came = self.read(1 + 73 + 32)
+        self.verdict, both = came[0] if came else None, their_nonce + nonce + card + came[1:74]
         if self.verdict == 0:
-            need(came[58:] == self.code(b"dials", both, b"\0"), "a site that dials gives a wrong code")
+            need(came[74:] == self.code(b"dials", both, b"\0"), "a site that dials gives a wrong code")
             self.send(b"\0" + self.code(b"verdict", both, b"\0"))
         self.items, self.acks = self.code(b"items", both), self.code(b"acknowledgements", both)
 
@@ -671,7 +673,7 @@ def hellos_that_are_refused():
         mesh.until_equal(1, EQUAL)
         mesh.until_linked()
         refused = lambda why, since: site.logs_only(f"no link from ADDRESS: hello: {why}", seconds=REFUSED, since=since)
-        for given, why in ((b"GET / HTTP/1.1\r\nHost: a\r\n\r\n", "another protocol"), (b"QSLK\x02" + bytes(32), "version 2 of the protocol"),
+        for given, why in ((b"GET / HTTP/1.1\r\nHost: a\r\n\r\n", "another protocol"), (b"QSLK\x01" + bytes(32), "version 1 of the protocol"),
                            (os.urandom(4_000), "another protocol")):
             began = time.monotonic()
             with socket.create_connection(("127.0.0.1", site.links), PATIENCE) as other:
@@ -694,9 +696,11 @@ def hellos_that_are_refused():
         first = dialed(site, 12, store=store, starts=3)
         need(first.verdict == 0, "a peer with a store is refused")
         site.logs_only("link from site 12 at ADDRESS: up", seconds=REFUSED, since=first.began)
-        peer = dialed(site, 12, store=store, starts=2)
-        need(peer.verdict == 7, "an older copy of a store is welcome")
-        refused("its store is an older copy", peer.began)
+        for starts, verdict, why in ((2, 7, "its store is an older copy"), (3, 8, "its store was copied: another process has this start of it")):
+            peer = dialed(site, 12, store=store, starts=starts, process=os.urandom(16))
+            need(peer.verdict == verdict, f"a peer is refused by {peer.verdict}, and not by {verdict}: {why}")
+            refused(why, peer.began)
+            first.send(first.tagged(bytes(4)))
         mesh.sites[1].add("SIP/2")
         mesh.until_equal(2, EQUAL)
         need(all(it.process.poll() is None for it in mesh.sites.values()), "a site has ended")
@@ -960,8 +964,8 @@ def copied_back(room, site, files):
 
 
 def sites_that_end():
-    """A site ends if its number was used by another store, if its store is an older copy, and if another site has frames of it that it hasn't
-    made; the others go on."""
+    """A site ends if its number was used by another store, if its store is a copy, also one that was started as often, and if another site has
+    frames of it that it hasn't made; the others go on."""
     with tempfile.TemporaryDirectory() as room, Mesh(room, stores=True) as mesh:
         for number, it in mesh.sites.items():
             it.add(f"SIP/{number}")
@@ -969,32 +973,63 @@ def sites_that_end():
         # Another process with the number of site 2.
         peers = [mesh.links[0], mesh.links[1]]
         took = [ends_by_itself(Site(room, 2, free_ports(1), peers, f"{room}/other.db"), "the site number belongs to another store")]
-        # Site 2 starts from an older copy of its files: at first as often as the others have seen, and then less often.
+        # A copy of the files of site 2 starts as often as site 2, which runs.
         mesh.sites[2].stop()
-        first = copies(room, 2)
+        first, other = copies(room, 2), f"{room}/other"
+        os.mkdir(other)
+        copied_back(other, 2, first)
         mesh.restart(2, 3)
+        took.append(ends_by_itself(Site(room, 2, free_ports(1), peers, f"{other}/site-2.db"), COPIED))
+        need(mesh.sites[2].process.poll() is None, "a site ends by a copy of its store")
         mesh.sites[2].add("SIP/later")
         mesh.until_equal(4, EQUAL)
         mesh.sites[2].stop()
+        # The copy in its place: it starts as often as the others have seen.
         later, peers = copies(room, 2), [mesh.proxies[2, 0].port, mesh.proxies[2, 1].port]
         copied_back(room, 2, first)
-        took.append(ends_by_itself(Site(room, 2, mesh.links[2], peers, mesh.stores[2]), NOT_MINE))
+        took.append(ends_by_itself(Site(room, 2, mesh.links[2], peers, mesh.stores[2]), COPIED))
         copied_back(room, 2, later)
-        # A site whose frame was refused dials again after 5 seconds, and the start waits for it for 4.
+        # A site that was refused is dialed again after 5 seconds, and the start waits for it for 4.
         mesh.restart(2, 4, HEALED)
         mesh.sites[2].stop()
+        # It starts less often.
         copied_back(room, 2, first)
         took.append(ends_by_itself(Site(room, 2, mesh.links[2], peers, mesh.stores[2]), "rolled back: the store is an older copy"))
+        # The copy again, among sites that have started since: they know none of its starts, but its changes.
+        for number in (0, 1):
+            mesh.sites[number].stop()
+            mesh.start(number)
+        copied_back(room, 2, first)
+        took.append(ends_by_itself(Site(room, 2, mesh.links[2], peers, mesh.stores[2]), NOT_MINE))
         del mesh.sites[2]
+        # A start that waits for a frame of site 2 answers clients after 4 seconds.
         mesh.sites[0].add("SIP/more")
-        mesh.until_equal(5, EQUAL)
+        mesh.until_equal(5, HEALED)
     with tempfile.TemporaryDirectory() as room, alone(room) as site:
         peer = dialed(site, 7)
         site.listens = peer.began
         peer.send(peer.tagged(frame_of(7, 1, "SIP/none", dot_site=0, count=4)))
         took.append(ends_by_itself(site, NOT_MINE, asks=False))
     said, ended = (max(times) for times in zip(*took))
-    return f"sites that end, which say why after {said:.1f} s and end after {ended:.1f} s: another store, an older copy, another's frames"
+    return f"sites that end, which say why after {said:.1f} s and end after {ended:.1f} s: another store, copies, another's frames"
+
+
+def copies_that_meet():
+    """Two copies of one store, started as often, that know only each other: each says that the other one has its number, and neither ends."""
+    with tempfile.TemporaryDirectory() as room:
+        ports = [free_ports(1) for _ in range(2)]
+        with alone(room, store=f"{room}/site-0.db") as site:
+            site.add("SIP/1")
+        other = f"{room}/other"
+        os.mkdir(other)
+        copied_back(other, 0, copies(room, 0))
+        sites = [Site(at, 0, ports[it], [ports[1 - it]], f"{at}/site-0.db") for it, at in enumerate((room, other))]
+        with sites[0], sites[1]:
+            taken = max(it.logs("link to ADDRESS: down: hello: another site has this site's number", HEALED) for it in sites)
+            for it in sites:
+                need("SIP/1" in members(shown(it)), "a site that meets a copy of its store shows no members")
+                need(b": ends: " not in it.log_so_far(), "a site ends by a copy of its store that it meets")
+    return f"two copies of a store that meet, which say so after {taken:.1f} s"
 
 
 def fill(room, disk, fault, clients=4, **how):
@@ -1437,8 +1472,8 @@ def stores_of_sites():
 
 TESTS = [words_of_a_site, stores_of_sites, clients_of_a_site, addresses, three_sites, links_that_are_down, only_by_another, slow_lines,
          news_over_a_slow_line, restarts, a_peer_of_another_program, hellos_that_are_refused, sites_that_are_refused, items_that_are_refused,
-         who_sits_on_the_line, acknowledgements_that_are_refused, sites_that_end, stores_that_fail, frames_that_conflict, wakes_that_fail,
-         a_start_that_waits, silent_connections, silent_peers, a_peer_that_reads_nothing, refused_allocations]
+         who_sits_on_the_line, acknowledgements_that_are_refused, sites_that_end, copies_that_meet, stores_that_fail, frames_that_conflict,
+         wakes_that_fail, a_start_that_waits, silent_connections, silent_peers, a_peer_that_reads_nothing, refused_allocations]
 # What `all` changes, and what it does besides.
 LONGER = {refused_allocations: all_refused_allocations}
 MORE = [a_late_item, a_long_whole]

@@ -48,7 +48,7 @@ cut_offer left_before left_after before between after key nonce other own long c
 
 -- an offer, and less than an answer to it
 pub waited : (left_before left_between left_after before between after : Option (List ℕ)) (key nonce other : List ℕ) (own : Card) → length other ≡ 32
-    → Consumes left_before left_between (opening other) → HasGivenUpTo left_between left_after 89 → Appends before between (opening nonce)
+    → Consumes left_before left_between (opening other) → HasGivenUpTo left_between left_after 105 → Appends before between (opening nonce)
     → Appends between after (card_bytes own ++ acceptor_code key other nonce own)
     → HasWaited left_before left_after before after key nonce own
 waited left_before left_between left_after before between after key nonce other own long came given opened offers = record {

@@ -4,13 +4,13 @@ use Rattle.std.specs.Int.{to_be_bytes, w64}
 use Rattle.dots.specs.Values.{IsSite}
 use Rattle.link_hello.specs.declared.card.Card.{Card}
 
--- the bytes of a card: number, store, start count, digest of the queues
+-- the bytes of a card: number, store, start count, process, digest of the queues
 abbrev pub card_bytes : Card → List ℕ
-card_bytes card = card.number ∷ (card.store ++ (to_be_bytes w64 card.starts ++ card.queues))
+card_bytes card = card.number ∷ (card.store ++ (to_be_bytes w64 card.starts ++ (card.process ++ card.queues)))
 
--- a card's store and digest have their lengths
+-- a card's store, process and digest have their lengths
 abbrev pub IsCard : Card → Type 0
-IsCard card = (length card.store ≡ 16) × (length card.queues ≡ 32)
+IsCard card = (length card.store ≡ 16) × (length card.process ≡ 16) × (length card.queues ≡ 32)
 
 -- the names of queues in their order: of each its length, one byte, and its bytes
 abbrev pub queues_bytes : List (List ℕ) → List ℕ

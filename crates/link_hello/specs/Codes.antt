@@ -7,23 +7,23 @@ use Rattle.link_hello.specs.declared.transcript.Transcript.{Transcript}
 
 -- the label of the code of the site that accepts
 abbrev pub accepts : List ℕ
-accepts = codes "queue sites link 1, accepts"
+accepts = codes "queue sites link 2, accepts"
 
 -- the label of the code of the site that dials
 abbrev pub dials : List ℕ
-dials = codes "queue sites link 1, dials"
+dials = codes "queue sites link 2, dials"
 
 -- the label of the code of a verdict
 abbrev pub verdict_label : List ℕ
-verdict_label = codes "queue sites link 1, verdict"
+verdict_label = codes "queue sites link 2, verdict"
 
 -- the label of the key of items
 abbrev pub items_label : List ℕ
-items_label = codes "queue sites link 1, items"
+items_label = codes "queue sites link 2, items"
 
 -- the label of the key of acknowledgements
 abbrev pub acknowledgements_label : List ℕ
-acknowledgements_label = codes "queue sites link 1, acknowledgements"
+acknowledgements_label = codes "queue sites link 2, acknowledgements"
 
 -- all of these labels
 abbrev pub labels : List (List ℕ)

@@ -98,7 +98,7 @@ pub record HasWaited (left_before left_after taken_before taken_after : Option (
   pub other : List ℕ
   pub part : List ℕ
   pub is_nonce : length other ≡ 32
-  pub few : length part ≤ 89
+  pub few : length part ≤ 105
   pub read : Consumes left_before left_after (opening other ++ part)
   pub written : Appends taken_before taken_after (opening nonce ++ (card_bytes own ++ acceptor_code key other nonce own))
 

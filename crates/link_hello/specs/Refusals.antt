@@ -1,7 +1,7 @@
 -- The numbers of refusals (this project's own).
 use Rattle.std.specs.Prelude.{ℕ, ◌≡◌, ◌<◌, None, Option, Some}
 use Rattle.link_hello.specs.declared.refusal.Refusal.{Refusal}
-use Rattle.link_hello.specs.declared.refusal.Refusal.TheVariants.{Itself, NoSuchSite, OlderCopy, OtherQueues, SameNumber, TakenNumber, Unknown, WrongSecret}
+use Rattle.link_hello.specs.declared.refusal.Refusal.TheVariants.{Itself, NoSuchSite, OlderCopy, OtherQueues, SameNumber, SecondCopy, TakenNumber, Unknown, WrongSecret}
 
 -- the byte of a refusal
 abbrev pub refusal_number : Refusal → ℕ
@@ -12,6 +12,7 @@ refusal_number SameNumber = 4
 refusal_number TakenNumber = 5
 refusal_number WrongSecret = 6
 refusal_number OlderCopy = 7
+refusal_number SecondCopy = 8
 refusal_number Unknown = 255
 
 -- the byte of a verdict: a welcome or a refusal
@@ -21,5 +22,5 @@ verdict_number (Some refusal) = refusal_number refusal
 
 -- a byte is read as a refusal: it is its number, or for `Unknown` the number of no other
 abbrev pub IsNumberOf : Refusal → ℕ → Type 0
-IsNumberOf Unknown number = 7 < number
+IsNumberOf Unknown number = 8 < number
 IsNumberOf refusal number = number ≡ refusal_number refusal

@@ -13,9 +13,9 @@ use replica::QueueList;
 use sha2::{Digest, Sha256};
 
 /// How many bytes a card has.
-pub const CARD_BYTES: usize = 57;
+pub const CARD_BYTES: usize = 73;
 
-/// Which site it is, of which store and which start of it, and of which queues.
+/// Which site it is, of which store, which start of it and which process, and of which queues.
 #[derive(Clone, Copy, Debug, PartialEq, Eq)]
 pub struct Card {
     /// The site's number. On a card of another site it may be that of no site.
@@ -24,6 +24,8 @@ pub struct Card {
     pub store: [u8; 16],
     /// How often the store was started.
     pub starts: u64,
+    /// The 16 random bytes that name the process of this start.
+    pub process: [u8; 16],
     /// The digest of the site's queues, by [`queues_digest`].
     pub queues: [u8; 32],
 }
@@ -71,6 +73,7 @@ pub(crate) fn put_card(out: &mut Message, card: &Card)
     put(out, &[card.number]);
     put(out, &card.store);
     put(out, &card.starts.to_be_bytes());
+    put(out, &card.process);
     put(out, &card.queues);
 }
 
@@ -90,16 +93,19 @@ pub(crate) fn card_in(bytes: &[u8]) -> Card
     ensures bytes { card_bytes result ≡ bytes.now }
     ensures lengths { IsCard result }
 {
-    let (front, queues) = bytes.split_at(25);
+    let (front, queues) = bytes.split_at(41);
+    let (front, process) = front.split_at(25);
     let (front, starts) = front.split_at(17);
     let (number, store) = front.split_at(1);
     let mut card = Card {
         number: number[0],
         store: [0u8; 16],
         starts: number_in(starts),
+        process: [0u8; 16],
         queues: [0u8; 32],
     };
     card.store.copy_from_slice(store);
+    card.process.copy_from_slice(process);
     card.queues.copy_from_slice(queues);
     card
 }

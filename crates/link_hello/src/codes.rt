@@ -11,19 +11,19 @@ use crate::{Card, Transcript};
 use link_keys::{Key, Mac};
 
 // The label of the code of the site that accepts.
-const ACCEPTS: &[u8] = b"queue sites link 1, accepts";
+const ACCEPTS: &[u8] = b"queue sites link 2, accepts";
 
 // The label of the code of the site that dials.
-pub(crate) const DIALS: &[u8] = b"queue sites link 1, dials";
+pub(crate) const DIALS: &[u8] = b"queue sites link 2, dials";
 
 // The label of the code of a verdict.
-pub(crate) const VERDICT: &[u8] = b"queue sites link 1, verdict";
+pub(crate) const VERDICT: &[u8] = b"queue sites link 2, verdict";
 
 // The label of the key of items.
-const ITEMS: &[u8] = b"queue sites link 1, items";
+const ITEMS: &[u8] = b"queue sites link 2, items";
 
 // The label of the key of acknowledgements.
-const ACKNOWLEDGEMENTS: &[u8] = b"queue sites link 1, acknowledgements";
+const ACKNOWLEDGEMENTS: &[u8] = b"queue sites link 2, acknowledgements";
 
 /// The keys of a link, one for each direction.
 #[derive(Drop)]

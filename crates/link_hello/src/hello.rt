@@ -20,7 +20,7 @@ use ami_text::{Sink, Source, write_all};
 use link_keys::{Key, same_bytes};
 
 // How many bytes a card and a code have.
-const CARD_AND_CODE: usize = 89;
+const CARD_AND_CODE: usize = 105;
 
 // Sends the refusal of a wrong code, a byte of its own. A failed write is ignored, since the hello ends anyway.
 fn send_wrong_secret<W: Sink>(sink: &mut W)
@@ -66,7 +66,7 @@ fn read_card<S: Source>(source: &mut S) -> Result<(Card, [u8; 32]), HelloFault>
     ensures fault { OnErr result (result ≡ Err HelloFault.Silent) }
     ensures silent { OnErr result (IsSilence (S.left source.old) (S.left source.new)
         (S.ended source.new) (S.failed source.new)) }
-    ensures few { OnErr result (HasGivenUpTo (S.left source.old) (S.left source.new) 88) }
+    ensures few { OnErr result (HasGivenUpTo (S.left source.old) (S.left source.new) 104) }
     ensures reads { S.reads_left source.old ≤ S.reads_left source.new + 16 }
 {
     let mut bytes = [0u8; CARD_AND_CODE];
@@ -106,7 +106,7 @@ fn read_verdict<S: Source>(source: &mut S) -> Result<u8, HelloFault>
 /// both nonces and the card. The caller judges the card and continues with `end_hello`. `nonce` is 32 random bytes that no other hello
 /// has.
 ///
-/// The opening is written before anything is read. The source is read at most 48 times, and gives at most 125 bytes before `Silent`. At
+/// The opening is written before anything is read. The source is read at most 48 times, and gives at most 141 bytes before `Silent`. At
 /// `NotSent` nothing was read, and the sink has taken a prefix of the opening.
 ///
 /// Errors: `NotSent`; then each part is judged once it has come, and it is `Silent` if the next one doesn't come; in order:
@@ -133,7 +133,7 @@ pub fn begin_hello<S: Source, W: Sink>(
     ensures not_sent { (result ≡ Err HelloFault.NotSent) → W.failed sink.new ≡ true }
     ensures unread { (result ≡ Err HelloFault.NotSent) → source.new ≡ source.old }
     ensures few { (result ≡ Err HelloFault.Silent)
-        → HasGivenUpTo (S.left source.old) (S.left source.new) 125 }
+        → HasGivenUpTo (S.left source.old) (S.left source.new) 141 }
     ensures reads { S.reads_left source.old ≤ S.reads_left source.new + 48 }
 {
     write_opening(sink, nonce)?;
@@ -251,7 +251,7 @@ pub fn end_hello<S: Source, W: Sink>(
 ///
 /// The opening is written before anything is read, so that a site of another version learns this one's, and the offer before anything is
 /// read after the dialer's opening. The source is read at most 64 times. Before `Silent` it gives at most 36 bytes without an offer, and at
-/// most 126 with one. At `NotSent` the sink has taken a prefix of the opening, and nothing was read; or the opening and a prefix of the
+/// most 142 with one. At `NotSent` the sink has taken a prefix of the opening, and nothing was read; or the opening and a prefix of the
 /// offer, and the dialer's opening was read.
 ///
 /// Errors: `NotSent`; then each part is judged once it has come, and it is `Silent` if the next one doesn't come; in order:

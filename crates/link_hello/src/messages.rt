@@ -11,7 +11,7 @@ use ami_text::{Sink, Source, write_all};
 use arrayvec::ArrayVec;
 
 /// The version of the protocol.
-pub const VERSION: u8 = 1;
+pub const VERSION: u8 = 2;
 
 // The letters of the protocol.
 const MAGIC: [u8; 4] = *b"QSLK";

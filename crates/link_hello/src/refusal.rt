@@ -18,7 +18,7 @@ pub enum Refusal {
     /// The card is the refusing site's own.
     #[error("it is this site itself")]
     Itself,
-    /// The card has the refusing site's number, and another store or a later start of its store.
+    /// The card has the refusing site's number, and another store, or of its store a later start or another process of the same start.
     #[error("another site has this site's number")]
     SameNumber,
     /// The card's number belongs to another store.
@@ -27,6 +27,10 @@ pub enum Refusal {
     /// The card's number belongs to its store, of which a greater start count was seen: it is an older copy, or an earlier start.
     #[error("its store is an older copy")]
     OlderCopy,
+    /// The card's number belongs to its store, of which another process was seen with the same start count: two copies were started, or
+    /// a start was lost.
+    #[error("its store was copied: another process has this start of it")]
+    SecondCopy,
     /// For a cause that this version doesn't know.
     #[error("unknown cause")]
     Unknown,
@@ -45,6 +49,7 @@ impl Refusal {
             Refusal::TakenNumber => 5,
             Refusal::WrongSecret => 6,
             Refusal::OlderCopy => 7,
+            Refusal::SecondCopy => 8,
             Refusal::Unknown => 255,
         }
     }
@@ -64,6 +69,7 @@ pub(crate) fn refusal_of(number: u8) -> Option<Refusal>
         5 => Some(Refusal::TakenNumber),
         6 => Some(Refusal::WrongSecret),
         7 => Some(Refusal::OlderCopy),
+        8 => Some(Refusal::SecondCopy),
         _ => Some(Refusal::Unknown),
     }
 }

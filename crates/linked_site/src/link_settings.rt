@@ -20,6 +20,15 @@ pub struct LinkSettings {
     pub ghost few_peers: { vec_len peers ≤ MOST_PEERS },
 }
 
+// 16 random bytes, as a name. Error: `NoRandom`.
+pub(crate) fn random_name<R: RandomSource>(rt: &R) -> Result<[u8; 16], LinkedSiteFault> {
+    let mut name = [0u8; 16];
+    match rt.fill_bytes(&mut name) {
+        Ok(()) => Ok(name),
+        Err(_) => Err(LinkedSiteFault::NoRandom),
+    }
+}
+
 impl LinkSettings {
     /// The settings of a site without a store: 16 random bytes are its name, and it was started once. Error: `NoRandom`.
     pub fn without_store<R: RandomSource>(
@@ -32,17 +41,18 @@ impl LinkSettings {
         ensures starts { IfOk result (λ links. links.starts ≡ 1) }
         ensures peers { IfOk result (λ links. links.peers ≡ peers) }
     {
-        let mut store = [0u8; 16];
-        if rt.fill_bytes(&mut store).is_err() {
-            drop(key);
-            drop(peers);
-            return Err(LinkedSiteFault::NoRandom);
+        match random_name(rt) {
+            Ok(store) => Ok(LinkSettings {
+                key,
+                store,
+                starts: 1,
+                peers,
+            }),
+            Err(fault) => {
+                drop(key);
+                drop(peers);
+                Err(fault)
+            }
         }
-        Ok(LinkSettings {
-            key,
-            store,
-            starts: 1,
-            peers,
-        })
     }
 }

@@ -1,8 +1,9 @@
 //! What the threads of a linked site share.
-ghost use Rattle.std.specs.Prelude.{◌≡◌, IfOk};
+ghost use Rattle.std.specs.Prelude.{◌≡◌, ℕ, IfOk, List};
 ghost use Rattle.site_peers.specs.Links.{links_card, links_key};
 ghost use Rattle.linked_site.specs.Cards.{card_of};
 
+use crate::link_settings::random_name;
 use crate::tasks::accepting_tasks;
 use crate::{LinkSettings, LinkedSiteFault};
 use link_hello::{Card, queues_digest};
@@ -13,6 +14,7 @@ use site_desk::SiteBell;
 use site_peers::{EndReason, LinkLog, PeerLinks, Ring, end_links};
 use std::alloc::Global;
 use std::net::{Net, TcpListener, TcpStream};
+use std::random::RandomSource;
 use std::sync::Wait;
 use std::sync::atomic::{AtomicU64, Ordering};
 use std::thread;
@@ -51,22 +53,24 @@ pub(crate) struct LinkedSite {
     pub accepting: AtomicU64,
 }
 
-// The card of this site: its number and its queues, and the store and the start that its settings name.
-fn card_of(replica: &Replica, links: &LinkSettings) -> Card
-    ensures { result ≡ card_of replica.now links.now }
+// The card of this site: its number and its queues, the store and the start that its settings name, and the name of its process.
+fn card_of(replica: &Replica, links: &LinkSettings, process: [u8; 16]) -> Card
+    ensures { result ≡ card_of replica.now links.now process }
 {
     Card {
         number: replica.site().number() as u8,
         store: links.store,
         starts: links.starts,
+        process,
         queues: queues_digest(replica.list()),
     }
 }
 
 impl LinkedSite {
-    // What the threads of this site share, which accepts clients and links at these listeners. It shows its card in its hellos. Errors,
-    // in order: `NoAddress`, `Memory`; all is dropped then.
-    pub fn new(
+    // What the threads of this site share, which accepts clients and links at these listeners. It shows its card in its hellos; 16 random
+    // bytes name its process. Errors, in order: `NoRandom`, `NoAddress`, `Memory`; all is dropped then.
+    pub fn new<R: RandomSource>(
+        rt: &R,
         alloc: Global,
         settings: &ClientSettings<'_>,
         links: LinkSettings,
@@ -74,9 +78,19 @@ impl LinkedSite {
         clients: TcpListener,
         heard: TcpListener,
     ) -> Result<LinkedSite, LinkedSiteFault>
-        ensures card { IfOk result (λ site. links_card site.links ≡ card_of replica.now links) }
+        ensures card { IfOk result (λ site. (process : List ℕ)
+            × (links_card site.links ≡ card_of replica.now links process)) }
         ensures key { IfOk result (λ site. links_key site.links ≡ links.key) }
     {
+        let process = match random_name(rt) {
+            Ok(process) => process,
+            Err(fault) => {
+                drop(links);
+                drop(clients);
+                drop(heard);
+                return Err(fault);
+            }
+        };
         let accepting = AtomicU64::new(accepting_tasks(settings.session.places, links.peers.len()));
         let own = match heard.local_addr() {
             Ok(own) => own,
@@ -96,7 +110,7 @@ impl LinkedSite {
             bell: SiteBell::new(),
             clients,
         };
-        let card = card_of(replica, &links);
+        let card = card_of(replica, &links, process);
         let LinkSettings { key, peers, .. } = links;
         match PeerLinks::new(alloc, card, key, own, ring, peers, BOX_BYTES) {
             Ok(links) => Ok(LinkedSite {

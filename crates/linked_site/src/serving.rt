@@ -70,14 +70,14 @@ fn run_site<
 /// rings the site's bell, and the site then sends its changes to all peers that are connected. Each peer gets a frame of all that the site
 /// knows when it connects. The steps of the site's journal are dropped when there are 1,000, and when they keep more than 64 MiB.
 ///
-/// It returns when the site has ended. `TakenNumber`, `OlderCopy`: another site has refused it so. `NotMine`: another site has sent a frame
-/// that this site refuses so. `Conflict`: it has refused the last frames of more sites than half as many as it dials so. `Asked`: it has
-/// taken `settings.connections` connections of clients, and answered them. The reason is logged in one line, and sessions that go on are
-/// cut off. What happens to clients and links is added to `settings.events`.
+/// It returns when the site has ended. `TakenNumber`, `OlderCopy`, `SecondCopy`: another site has refused it so. `NotMine`: another site
+/// has sent a frame that this site refuses so. `Conflict`: it has refused the last frames of more sites than half as many as it dials so.
+/// `Asked`: it has taken `settings.connections` connections of clients, and answered them. The reason is logged in one line, and sessions
+/// that go on are cut off. What happens to clients and links is added to `settings.events`.
 ///
-/// Errors, in order: 1 `NoAddress`, if the system doesn't say at which address links are accepted; 2 `NoThread`, if a thread can't start; 3
-/// `Memory`, which may stand in place of 2. No client is answered then, and no peer is dialed. (Sessions are Asterisk's Manager Interface;
-/// how sites are linked is this project's own.)
+/// Errors, in order: 1 `NoRandom`, if the system gives no random bytes, by which others know its process; 2 `NoAddress`, if it doesn't say
+/// at which address links are accepted; 3 `NoThread`, if a thread can't start; 4 `Memory`, which may stand in place of 3. No client is
+/// answered then, and no peer is dialed. (Sessions are Asterisk's Manager Interface; how sites are linked is this project's own.)
 pub fn serve_linked_site<
     R: Net<Listener = TcpListener, Stream = TcpStream>
         + Threads
@@ -97,7 +97,7 @@ pub fn serve_linked_site<
     ensures journal { IfOk result (λ end. IsLinkedJournal replica end.journal) }
 {
     let peers = links.peers.len();
-    let shared = match LinkedSite::new(alloc, settings, links, &replica, clients, heard) {
+    let shared = match LinkedSite::new(rt, alloc, settings, links, &replica, clients, heard) {
         Ok(shared) => shared,
         Err(fault) => {
             drop(replica);

@@ -89,7 +89,8 @@ where
 }
 
 // What a site over its store is launched with. Errors, in order: those of `LinkedSite::new`; `Memory`. All is dropped then.
-fn site_of<D: StepStore>(
+fn site_of<R: RandomSource, D: StepStore>(
+    rt: &R,
     alloc: Global,
     settings: &ClientSettings<'_>,
     links: LinkSettings,
@@ -102,7 +103,7 @@ fn site_of<D: StepStore>(
     ensures store { IfOk result (λ site. site.store ≡ store) }
 {
     let peers = links.peers.len();
-    let shared = match LinkedSite::new(alloc, settings, links, &replica, clients, heard) {
+    let shared = match LinkedSite::new(rt, alloc, settings, links, &replica, clients, heard) {
         Ok(shared) => shared,
         Err(fault) => {
             drop(replica);
@@ -164,6 +165,6 @@ where
     ensures lost { IfOk result (λ end. end.store ≡ None
         → end.fault ≡ Some CommitFault.Other) }
 {
-    let site = site_of(alloc, settings, links, replica, store, clients, heard)?;
+    let site = site_of(rt, alloc, settings, links, replica, store, clients, heard)?;
     run_site(rt, alloc, site)
 }

@@ -8,9 +8,9 @@ use Rattle.roll.specs.declared.roll.Identity.{Identity}
 abbrev pub seen_with : List (Option Identity) → ℕ → Option Identity
 seen_with seen number = slice_index_or seen number None
 
--- the store and start count of a card
+-- the store, start count and process of a card
 abbrev pub identity_of : Card → Identity
-identity_of card = record { store = card.store; starts = card.starts }
+identity_of card = record { store = card.store; starts = card.starts; process = card.process }
 
 -- another site's card is of this site's queues and has another site's number
 abbrev pub IsPeer : Card → Card → Type 0

@@ -11,17 +11,20 @@ use std::marker::Model;
 // How many site numbers there are.
 const NUMBERS: usize = SITES as usize;
 
-/// Which store a site is of, and the greatest start count that was seen of it.
+/// Which store a site is of, the greatest start count that was seen of it, and the process of that start.
 #[derive(Clone, Copy, Debug, PartialEq, Eq)]
 pub struct Identity {
     /// The 16 bytes that name the store.
     pub store: [u8; 16],
     /// How often the store was started.
     pub starts: u64,
+    /// The 16 bytes that name the process.
+    pub process: [u8; 16],
 }
 
 /// The stores that were seen, one for each of the 64 site numbers. As long as the roll lasts a number stays that of the first store that was
-/// seen with it, and its start count never falls. A new process begins with a roll on which no store was seen.
+/// seen with it, its start count never falls, and each start stays that of the first process that was seen with it. A new process begins
+/// with a roll on which no store was seen.
 #[derive(Drop)]
 pub struct Roll {
     seen: [Option<Identity>; NUMBERS],
@@ -46,18 +49,20 @@ impl Roll {
         }
     }
 
-    /// Judges another site's card, keeps its store and start count where nothing is wrong with it, and returns its site. `own` is
-    /// this site's card.
+    /// Judges another site's card, keeps its store, start count and process where nothing is wrong with it, and returns its site. `own`
+    /// is this site's card.
     ///
     /// Errors, in order: `NoSuchSite`, `OtherQueues`, `Itself`, `OlderCopy`, `SameNumber`, by `judge`; `TakenNumber` if the card's number
-    /// was seen with another store; `OlderCopy` if it was seen with this store and a greater start count. They change nothing.
+    /// was seen with another store; `OlderCopy` if it was seen with this store and a greater start count; `SecondCopy` if it was seen with
+    /// this store, this start count and another process. They change nothing.
     pub fn admit(&mut self, own: &Card, card: &Card) -> Result<SiteId, Refusal>
         ensures site { IfOk result (λ site. site ≡ card.now.number) }
         ensures kept { OnOk result (self.new
             ≡ slice_set self.old card.now.number (Some (identity_of card.now))) }
         ensures admitted { IsOk result ↔ (IsPeer own.now card.now
             × IfSome (seen_with self.old card.now.number) (λ seen.
-            (seen.store ≡ card.now.store) × (seen.starts ≤ card.now.starts))) }
+            (seen.store ≡ card.now.store) × (seen.starts ≤ card.now.starts)
+            × (seen.starts ≡ card.now.starts → seen.process ≡ card.now.process))) }
         ensures err { OnErr result (self.new ≡ self.old) }
         ensures judged { IsErrOf result Refusal.WrongSecret → ⊥ }
         ensures no_such_site { IsErrOf result Refusal.NoSuchSite
@@ -77,6 +82,10 @@ impl Roll {
             ⊎ (IsPeer own.now card.now
             × IsSomeAnd (seen_with self.old card.now.number) (λ seen.
             (seen.store ≡ card.now.store) × (card.now.starts < seen.starts)))) }
+        ensures second_copy { IsErrOf result Refusal.SecondCopy ↔ (IsPeer own.now card.now
+            × IsSomeAnd (seen_with self.old card.now.number) (λ seen.
+            (seen.store ≡ card.now.store) × (seen.starts ≡ card.now.starts)
+            × (seen.process ≢ card.now.process))) }
     {
         if let Some(refusal) = judge(own, card) {
             return Err(refusal);
@@ -92,10 +101,14 @@ impl Roll {
             if card.starts < seen.starts {
                 return Err(Refusal::OlderCopy);
             }
+            if card.starts == seen.starts && card.process != seen.process {
+                return Err(Refusal::SecondCopy);
+            }
         }
         self.seen[place] = Some(Identity {
             store: card.store,
             starts: card.starts,
+            process: card.process,
         });
         Ok(site)
     }

@@ -209,8 +209,8 @@ fn dial_once<
     (true, fault)
 }
 
-// Why the site ends after a connection that has ended by this fault: the peer refuses it as `TakenNumber` or `OlderCopy`. `None`: it
-// doesn't end.
+// Why the site ends after a connection that has ended by this fault: the peer refuses it as `TakenNumber`, `OlderCopy` or
+// `SecondCopy`. `None`: it doesn't end.
 fn reason_of(fault: DialFault) -> Option<EndReason> {
     match fault {
         DialFault::Hello(fault) => end_reason(fault),
@@ -285,7 +285,7 @@ fn left_of<R: Clock>(rt: &R, since: Option<u64>, time: u64) -> u64 {
 
 // Dials a peer again and again, with pauses, until the site ends, which cuts a pause short, as `wait_to_dial` says. It logs why a link
 // falls, and why there is none if the dialing before had another cause. A peer that turns out to be the site itself is noted. One that
-// refuses the site as `TakenNumber` or `OlderCopy` ends it.
+// refuses the site as `TakenNumber`, `OlderCopy` or `SecondCopy` ends it.
 fn dial_until_end<
     R: Net<Listener = TcpListener, Stream = TcpStream> + Wait + Clock + RandomSource,
     G: Ring<R> + Drop,
@@ -326,7 +326,7 @@ fn dial_until_end<
 
 /// Dials the peer at this place of the list, sends over the link what waits for it, and dials again when the link falls, until the site
 /// ends. Returns at once where there is no such place. A line is logged when a link is up, when it falls, and when a dialing fails for
-/// another cause than the one before it. A peer that refuses the site as `TakenNumber` or `OlderCopy` ends it.
+/// another cause than the one before it. A peer that refuses the site as `TakenNumber`, `OlderCopy` or `SecondCopy` ends it.
 pub fn dial_peer<
     R: Net<Listener = TcpListener, Stream = TcpStream> + Wait + Clock + RandomSource,
     G: Ring<R> + Drop,

@@ -24,6 +24,10 @@ pub enum EndReason {
     /// A peer has seen a later start of this site's store.
     #[error("rolled back: the store is an older copy")]
     OlderCopy,
+    /// A peer has seen this start of this site's store by another process: two copies of it were started, or an older one as often as the
+    /// newer one, or its disk has lost a start.
+    #[error("the store was copied: another process has this start of it")]
+    SecondCopy,
     /// A commit of its store has failed.
     #[error("the store has failed")]
     StoreFailed,

@@ -123,9 +123,9 @@ fn is_conflict(fault: HearFault) -> bool {
     )
 }
 
-// Why the site ends after a link that has ended by this fault: the peer refuses it as `TakenNumber` or `OlderCopy`; it refuses a frame as
-// `NotMine`, or one as `Conflict` and the last ones of more sites than half as many as it dials: if one alone conflicts, that one is likely
-// wrong. `None`: it doesn't end.
+// Why the site ends after a link that has ended by this fault: the peer refuses it as `TakenNumber`, `OlderCopy` or `SecondCopy`; it
+// refuses a frame as `NotMine`, or one as `Conflict` and the last ones of more sites than half as many as it dials: if one alone conflicts,
+// that one is likely wrong. `None`: it doesn't end.
 fn reason_of<R: Wait, G: Drop>(
     rt: &R,
     links: &PeerLinks<G>,
@@ -246,11 +246,11 @@ fn hear_connection<
 /// Accepts one connection after another at a listener, and lets the site take the frames that come over each, by this port, until the site
 /// ends. Where the port lacks room or memory for a frame, the frame is dropped, and the peer is asked for a whole each 5 seconds until the
 /// site has caught up. Any other frame that the port refuses ends its link; `NotMine` ends the site, as do `Conflict` of more sites than
-/// half as many as it dials, and a peer that refuses it as `TakenNumber` or `OlderCopy`. A connection is closed over which nothing comes
-/// for 0.5 seconds, or no whole hello for 3; a link ends over which nothing comes for 4, or whose item takes 60 and comes by fewer than
-/// 8,000 bytes a second. Lines are logged when a link is up and when it is down, when the site falls behind a peer and when it has caught
-/// up, and when a connection leads to no link for another cause than the last one from its address. At the end it wakes another thread that
-/// accepts links.
+/// half as many as it dials, and a peer that refuses it as `TakenNumber`, `OlderCopy` or `SecondCopy`. A connection is closed over which
+/// nothing comes for 0.5 seconds, or no whole hello for 3; a link ends over which nothing comes for 4, or whose item takes 60 and comes by
+/// fewer than 8,000 bytes a second. Lines are logged when a link is up and when it is down, when the site falls behind a peer and when it
+/// has caught up, and when a connection leads to no link for another cause than the last one from its address. At the end it wakes another
+/// thread that accepts links.
 pub fn hear_peers<
     R: Net<Listener = TcpListener, Stream = TcpStream> + Wait + Clock + RandomSource,
     G: Ring<R> + Drop,

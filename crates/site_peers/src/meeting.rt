@@ -32,12 +32,16 @@ pub(crate) fn end_reason(fault: HelloFault) -> Option<EndReason>
         → result ≡ Some EndReason.TakenNumber }
     ensures older { fault ≡ HelloFault.IsRefused Refusal.OlderCopy
         → result ≡ Some EndReason.OlderCopy }
+    ensures second { fault ≡ HelloFault.IsRefused Refusal.SecondCopy
+        → result ≡ Some EndReason.SecondCopy }
     ensures only { IfSome result (λ _. (fault ≡ HelloFault.IsRefused Refusal.TakenNumber)
-        ⊎ (fault ≡ HelloFault.IsRefused Refusal.OlderCopy)) }
+        ⊎ ((fault ≡ HelloFault.IsRefused Refusal.OlderCopy)
+        ⊎ (fault ≡ HelloFault.IsRefused Refusal.SecondCopy))) }
 {
     match fault {
         HelloFault::IsRefused(Refusal::TakenNumber) => Some(EndReason::TakenNumber),
         HelloFault::IsRefused(Refusal::OlderCopy) => Some(EndReason::OlderCopy),
+        HelloFault::IsRefused(Refusal::SecondCopy) => Some(EndReason::SecondCopy),
         _ => None,
     }
 }

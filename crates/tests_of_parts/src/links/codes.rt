@@ -50,13 +50,13 @@ fn a_secret_has_a_key_and_items_have_tags(rt: HostRuntime) {
     drop(secret);
     let items = key(
         &rt,
-        "440590076d547d964e03722cfdb1d6d002a63546fcd9120594087237eec1dab9",
+        "c603c3f0b8a911099859ba6d58cbd0b1b57dd153c23073eda5ccb9e7adddcf43",
     );
     let beat = [0, 0, 0, 0];
     let first = tag(&items, 0, &beat);
-    assert_bytes(&rt, alloc, &first, "40fa884b39795e6eca25722841961eff");
+    assert_bytes(&rt, alloc, &first, "b71c7c3c20501223c6b938ddcad1eaa4");
     let second = tag(&items, 1, &beat);
-    assert_bytes(&rt, alloc, &second, "d5a3c94c5686b7b1f276ee62965b54b3");
+    assert_bytes(&rt, alloc, &second, "d4adbb14aa816c8d866f449205946abb");
     drop(items);
 }
 

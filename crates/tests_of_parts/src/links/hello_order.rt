@@ -91,7 +91,7 @@ fn a_dialer_opens_before_it_reads(rt: HostRuntime) {
     let alloc = rt.alloc();
     let bytes = joined(&rt, alloc, &[ACCEPTOR_OPENS, OFFER]);
     let taken = Cell::new(0);
-    let mut source = seeing(&bytes, &taken, 37, (126, 37));
+    let mut source = seeing(&bytes, &taken, 37, (142, 37));
     let mut sink = CountingSink { taken: &taken };
     let begun = begin(&rt, &mut source, &mut sink);
     assert!(rt; begun == Ok(transcript(&rt)) && source.is_prompt && taken.get() == 37);
@@ -103,11 +103,11 @@ fn a_dialer_opens_before_it_reads(rt: HostRuntime) {
 fn a_dialer_answers_before_it_reads_the_verdict(rt: HostRuntime) {
     let bytes = bytes(&rt, rt.alloc(), WELCOME);
     let taken = Cell::new(0);
-    let mut source = seeing(&bytes, &taken, 90, (33, 90));
+    let mut source = seeing(&bytes, &taken, 106, (33, 106));
     let mut sink = CountingSink { taken: &taken };
     let keys = end(&mut source, &mut sink, &transcript(&rt), None);
     assert_keys(&rt, rt.alloc(), keys, None);
-    assert!(rt; source.is_prompt && taken.get() == 90);
+    assert!(rt; source.is_prompt && taken.get() == 106);
     drop(source);
     drop(bytes);
 }
@@ -117,10 +117,10 @@ fn an_acceptor_opens_and_offers_before_it_reads_on(rt: HostRuntime) {
     let alloc = rt.alloc();
     let bytes = joined(&rt, alloc, &[DIALER_OPENS, "00", ANSWER]);
     let taken = Cell::new(0);
-    let mut source = seeing(&bytes, &taken, 37, (37, 126));
+    let mut source = seeing(&bytes, &taken, 37, (37, 142));
     let mut sink = CountingSink { taken: &taken };
     let accepted = accept(&rt, &mut source, &mut sink);
-    assert!(rt; accepted == Ok(transcript(&rt)) && source.is_prompt && taken.get() == 126);
+    assert!(rt; accepted == Ok(transcript(&rt)) && source.is_prompt && taken.get() == 142);
     drop(source);
     drop(bytes);
 }
@@ -165,8 +165,8 @@ fn a_dialer_and_an_acceptor_end_with_the_same_keys(rt: HostRuntime) {
     let answered = dialed(&rt, alloc, &offered, Some(HelloFault::Silent));
     let ended = accepted(&rt, alloc, &answered, None);
     let all = dialed(&rt, alloc, &ended, None);
-    assert!(rt; opened.len() == 37 && offered.len() == 126);
-    assert!(rt; answered.len() == 127 && ended.len() == 159 && all == answered);
+    assert!(rt; opened.len() == 37 && offered.len() == 142);
+    assert!(rt; answered.len() == 143 && ended.len() == 175 && all == answered);
     drop(opened);
     drop(offered);
     drop(answered);

@@ -22,51 +22,58 @@ const ACCEPTOR: &str = "202122232425262728292a2b2c2d2e2f303132333435363738393a3b
 
 // The openings of both.
 pub(crate) const DIALER_OPENS: &str =
-    "51534c4b01000102030405060708090a0b0c0d0e0f101112131415161718191a1b1c1d1e1f";
+    "51534c4b02000102030405060708090a0b0c0d0e0f101112131415161718191a1b1c1d1e1f";
 
 pub(crate) const ACCEPTOR_OPENS: &str =
-    "51534c4b01202122232425262728292a2b2c2d2e2f303132333435363738393a3b3c3d3e3f";
+    "51534c4b02202122232425262728292a2b2c2d2e2f303132333435363738393a3b3c3d3e3f";
 
 // The card and the code of the site that accepts: site 1, of the store `a0a1..`, which was started 3 times; and the same without its last
-// byte, `4c`.
+// byte, `90`.
 pub(crate) const OFFER: &str = "01a0a1a2a3a4a5a6a7a8a9aaabacadaeaf0000000000000003\
+    808182838485868788898a8b8c8d8e8f\
     73f9bf545c85c81aa43403020558947f8329b0323c2feeef4052a2aed19b1976\
-    5366a0046e90c55b9566fa4999778f7ff9d426df7d582c3f245963ca759e524c";
+    7905cb6eae04eca0e24d6832826adbe1353054e9b1cb541915e5dd5fedabe490";
 
 const SHORT_OFFER: &str = "01a0a1a2a3a4a5a6a7a8a9aaabacadaeaf0000000000000003\
+    808182838485868788898a8b8c8d8e8f\
     73f9bf545c85c81aa43403020558947f8329b0323c2feeef4052a2aed19b1976\
-    5366a0046e90c55b9566fa4999778f7ff9d426df7d582c3f245963ca759e52";
+    7905cb6eae04eca0e24d6832826adbe1353054e9b1cb541915e5dd5fedabe4";
 
 // What the site that dials answers after its verdict: site 0, of the store `d0d1..`, which was started 7 times; with the codes of a
 // welcome and of refusal 5.
 pub(crate) const ANSWER: &str = "00d0d1d2d3d4d5d6d7d8d9dadbdcdddedf0000000000000007\
+    b0b1b2b3b4b5b6b7b8b9babbbcbdbebf\
     73f9bf545c85c81aa43403020558947f8329b0323c2feeef4052a2aed19b1976\
-    12c2e85fa22674bef7f7ef0cb974daf912339303d4f5621c7096dd9256d4a3ad";
+    d8533c662b14ed96cf88ca0e9fae41e8e8e436dc96fb0659000dffeb4d069e2f";
 
 const REFUSING: &str = "00d0d1d2d3d4d5d6d7d8d9dadbdcdddedf0000000000000007\
+    b0b1b2b3b4b5b6b7b8b9babbbcbdbebf\
     73f9bf545c85c81aa43403020558947f8329b0323c2feeef4052a2aed19b1976\
-    d95acbbbdba9ec0380d5f100a0273044291825c712e6e12922264b0d11499e2a";
+    dc4549b895ddf5767c898709b67f6377bdfc9fae9e29fede1ebb85b2c1428518";
 
 // The answer with a welcome to an acceptor whose nonce ends with `40`.
 const OTHER_ANSWER: &str = "00d0d1d2d3d4d5d6d7d8d9dadbdcdddedf0000000000000007\
+    b0b1b2b3b4b5b6b7b8b9babbbcbdbebf\
     73f9bf545c85c81aa43403020558947f8329b0323c2feeef4052a2aed19b1976\
-    6c5f61daee507212c53d8a327ea4444dc842ea460431852bd12f84e9fed14003";
+    e1a6041e27e63846f724548f039bceb67957b2bb8b66d9eb0f32c5c5bf53483a";
 
 // A welcome with the code of the dialer's own answer, and that of a hello with another dialer's nonce.
-const REFLECTED: &str = "0012c2e85fa22674bef7f7ef0cb974daf912339303d4f5621c7096dd9256d4a3ad";
+const REFLECTED: &str = "00d8533c662b14ed96cf88ca0e9fae41e8e8e436dc96fb0659000dffeb4d069e2f";
 
-const OTHER_WELCOME: &str = "000af33df7b2048b0b6fa2df516c6ba205740c791bfc0378a4c8abc62f4872b8fc";
+const OTHER_WELCOME: &str = "008c27d19f61061a7a7422b87ae6c4b021db1ee27072c81797b414b124cf17f01f";
 
 // Refusal 9, which this version doesn't know.
-const UNKNOWN: &str = "09d1355d700ac6ba1bf8ad99d7bc497c23052001aed6e4522bb7bf5a49981c2dbc";
+const UNKNOWN: &str = "096fc0c9f5519ed03b013dec130147e1e715e7afefcdb8b67d5d6e17dfda4154f9";
 
-// The verdicts of the site that accepts: a welcome, and refusals 4 and 7.
+// The verdicts of the site that accepts: a welcome, and refusals 4, 7 and 8.
 pub(crate) const WELCOME: &str =
-    "00471f73b61b5a492c247cc39d98da170c3adcb21dcb82696e70ef4b10cfbfd5c7";
+    "0038e36698ad916373b9293bf0321a6bf751b823a46cbfaf1e7ffadced0b28fe0f";
 
-const SAME_NUMBER: &str = "047ea6475466d9bb138acaec39166691e86fbda014c8ca3f3c92472e230e1a58ac";
+const SAME_NUMBER: &str = "0423db3a9cffcfb5463948498d7a1b3d341c058ff0b4c3ecc8cfa90971b15a044a";
 
-const OLDER_COPY: &str = "07d7dd97e6d64db76963d24b6b1a15b50a7e916b964477a633ab878e056f214d31";
+const OLDER_COPY: &str = "07b9bc68178713c7a84854472e4cdc440b586270559872616de9bfd9e0c8002e35";
+
+const SECOND_COPY: &str = "08f41550a724f1439897c0469ebfbd20a190dd8f76b6289e6afd0ab8df11843b36";
 
 // More reads or writes than there are.
 const NEVER: u64 = 1_000;
@@ -160,9 +167,9 @@ fn begun_over(
 fn a_hello_ends_with_its_devices(rt: HostRuntime) {
     let alloc = rt.alloc();
     let silent = Err(HelloFault::Silent);
-    // A card and a code are 89 bytes: by 6 at a time they come in 15 reads, by 5 in 18.
-    assert!(rt; begun_over(&rt, alloc, 6, NEVER, 100, NEVER) == Ok(transcript(&rt)));
-    assert!(rt; begun_over(&rt, alloc, 5, NEVER, 100, NEVER) == silent);
+    // A card and a code are 105 bytes: by 7 at a time they come in 15 reads, by 6 in 18.
+    assert!(rt; begun_over(&rt, alloc, 7, NEVER, 100, NEVER) == Ok(transcript(&rt)));
+    assert!(rt; begun_over(&rt, alloc, 6, NEVER, 100, NEVER) == silent);
     assert!(rt; begun_over(&rt, alloc, 7, 3, 100, NEVER) == silent);
     assert!(rt; begun_over(&rt, alloc, 7, NEVER, 7, 3) == Err(HelloFault::NotSent));
 }
@@ -178,7 +185,7 @@ fn a_dialer_hears_the_card_and_the_code(rt: HostRuntime) {
         Ok(transcript(&rt)),
         &opened,
     );
-    let wrong = [ACCEPTOR_OPENS, SHORT_OFFER, "4d"];
+    let wrong = [ACCEPTOR_OPENS, SHORT_OFFER, "91"];
     let answer = [DIALER_OPENS, "06"];
     assert_begun(&rt, alloc, &wrong, Err(HelloFault::WrongSecret), &answer);
     let reflected = [DIALER_OPENS, OFFER];
@@ -189,8 +196,8 @@ fn a_dialer_hears_the_card_and_the_code(rt: HostRuntime) {
         Err(HelloFault::WrongSecret),
         &answer,
     );
-    let fault = Err(HelloFault::OtherVersion(2));
-    assert_begun(&rt, alloc, &["51534c4b02"], fault, &opened);
+    let fault = Err(HelloFault::OtherVersion(1));
+    assert_begun(&rt, alloc, &["51534c4b01"], fault, &opened);
     let fault = Err(HelloFault::OtherProtocol);
     assert_begun(&rt, alloc, &["474554202f"], fault, &opened);
     let silent = Err(HelloFault::Silent);
@@ -263,8 +270,8 @@ fn an_acceptor_hears_the_card_and_the_code(rt: HostRuntime) {
     let other = [DIALER_OPENS, "00", OTHER_ANSWER];
     assert_accepted(&rt, alloc, &other, wrong, &answer);
     let opened = [ACCEPTOR_OPENS];
-    let fault = Err(HelloFault::OtherVersion(2));
-    assert_accepted(&rt, alloc, &["51534c4b02"], fault, &opened);
+    let fault = Err(HelloFault::OtherVersion(1));
+    assert_accepted(&rt, alloc, &["51534c4b01"], fault, &opened);
     let fault = Err(HelloFault::OtherProtocol);
     assert_accepted(&rt, alloc, &["474554202f"], fault, &opened);
     let silent = Err(HelloFault::Silent);
@@ -281,9 +288,9 @@ pub(crate) fn assert_keys(
     match keys {
         Ok(keys) => {
             assert!(*rt; fault.is_none());
-            let digits = "440590076d547d964e03722cfdb1d6d002a63546fcd9120594087237eec1dab9";
+            let digits = "c603c3f0b8a911099859ba6d58cbd0b1b57dd153c23073eda5ccb9e7adddcf43";
             assert_bytes(rt, alloc, keys.items.as_bytes(), digits);
-            let digits = "bd50641042aa4daddd26bf4905c116ad6b7847c73aa0b23ca299be8eea848c46";
+            let digits = "16af8bd2fa34fa94bacacb42ec220ea44abc55ce1d0bf942e77738fd76088b12";
             assert_bytes(rt, alloc, keys.acknowledgements.as_bytes(), digits);
             drop(keys);
         }
@@ -346,6 +353,7 @@ fn a_dialer_answers_and_hears_the_verdict(rt: HostRuntime) {
     assert_welcomed(&rt, alloc, WELCOME, None);
     assert_refused(&rt, alloc, SAME_NUMBER, Refusal::SameNumber);
     assert_refused(&rt, alloc, OLDER_COPY, Refusal::OlderCopy);
+    assert_refused(&rt, alloc, SECOND_COPY, Refusal::SecondCopy);
     assert_refused(&rt, alloc, "06", Refusal::WrongSecret);
     assert_refused(&rt, alloc, UNKNOWN, Refusal::Unknown);
     let wrong = Some(HelloFault::WrongSecret);
@@ -393,6 +401,7 @@ fn an_acceptor_gives_its_verdict(rt: HostRuntime) {
     assert_verdict(&rt, alloc, None, WELCOME);
     assert_verdict(&rt, alloc, Some(Refusal::SameNumber), SAME_NUMBER);
     assert_verdict(&rt, alloc, Some(Refusal::OlderCopy), OLDER_COPY);
+    assert_verdict(&rt, alloc, Some(Refusal::SecondCopy), SECOND_COPY);
 }
 
 fn name(rt: &impl Abort, text: &[u8]) -> QueueName {

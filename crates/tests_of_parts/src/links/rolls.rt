@@ -38,3 +38,25 @@ fn a_number_stays_that_of_its_store(rt: HostRuntime) {
     other.number = 64;
     assert!(rt; roll.admit(&own, &other).err() == Some(Refusal::NoSuchSite));
 }
+
+#[test]
+fn a_start_stays_that_of_its_process(rt: HostRuntime) {
+    let mut roll = Roll::new();
+    let own = card(&rt, 0, 0xd0, 7);
+    let first = card(&rt, 1, 0xa0, 4);
+    let mut other = first;
+    other.process[15] ^= 1;
+    assert!(rt; roll.admit(&own, &first).is_ok());
+    assert!(rt; roll.admit(&own, &other).err() == Some(Refusal::SecondCopy));
+    assert!(rt; roll.admit(&own, &first).is_ok());
+    // An earlier start of another process, and a later one, which takes the number over.
+    other.starts = 3;
+    assert!(rt; roll.admit(&own, &other).err() == Some(Refusal::OlderCopy));
+    other.starts = 5;
+    assert!(rt; roll.admit(&own, &other).is_ok());
+    assert!(rt; roll.admit(&own, &first).err() == Some(Refusal::OlderCopy));
+    // Another process of this site's own start.
+    let mut copy = own;
+    copy.process[0] ^= 1;
+    assert!(rt; roll.admit(&own, &copy).err() == Some(Refusal::SameNumber));
+}

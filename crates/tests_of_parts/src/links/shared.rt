@@ -39,12 +39,13 @@ fn counting(first: u8) -> [u8; 16] {
     bytes
 }
 
-// The card of a site whose store's name counts up from a byte.
+// The card of a site whose store's name counts up from a byte, and its process's name from 32 less.
 pub(crate) fn card(rt: &impl Abort, number: u8, first: u8, starts: u64) -> Card {
     Card {
         number,
         store: counting(first),
         starts,
+        process: counting(first.wrapping_sub(0x20)),
         queues: bytes32(rt, QUEUES),
     }
 }

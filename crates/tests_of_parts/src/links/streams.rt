@@ -11,10 +11,10 @@ use link_stream::{
 use std::alloc::Global;
 use std::process::Abort;
 
-const ITEM_KEY: &str = "440590076d547d964e03722cfdb1d6d002a63546fcd9120594087237eec1dab9";
+const ITEM_KEY: &str = "c603c3f0b8a911099859ba6d58cbd0b1b57dd153c23073eda5ccb9e7adddcf43";
 
 const ACKNOWLEDGEMENT_KEY: &str =
-    "bd50641042aa4daddd26bf4905c116ad6b7847c73aa0b23ca299be8eea848c46";
+    "16af8bd2fa34fa94bacacb42ec220ea44abc55ce1d0bf942e77738fd76088b12";
 
 // A frame of site 0 that says nothing.
 const FRAME: &str = "00000018514402000000000000000001000000000000000000000000";
@@ -23,37 +23,37 @@ const FRAME: &str = "00000018514402000000000000000001000000000000000000000000";
 const SHORT_FRAME: &str = "000000185144020000000000000000010000000000000000000000";
 
 // A beat, that frame and a beat, each with its tag.
-const FIRST: &str = "0000000040fa884b39795e6eca25722841961eff";
+const FIRST: &str = "00000000b71c7c3c20501223c6b938ddcad1eaa4";
 
 const SECOND: &str =
-    "000000185144020000000000000000010000000000000000000000006914241f30a3f0b15c05f80c4a9b3ea3";
+    "0000001851440200000000000000000100000000000000000000000015c69b14e2d429b121d2badeb7b964ca";
 
-const THIRD: &str = "00000000e65c883af45fb39db86709cd8d38294b";
+const THIRD: &str = "000000006758b399a076d963bcae7367c507267e";
 
 // The frame under counter 0, a beat under counter 1.
 const REUSED_COUNTER: &str =
-    "00000018514402000000000000000001000000000000000000000000ce969567865731318f68c9c1fcfa9673";
+    "000000185144020000000000000000010000000000000000000000001a0263ee2744a5a32e39bd70572ba219";
 
-const NEXT_COUNTER: &str = "00000000d5a3c94c5686b7b1f276ee62965b54b3";
+const NEXT_COUNTER: &str = "00000000d4adbb14aa816c8d866f449205946abb";
 
 // Another maker in the frame, and the frame under the key of acknowledgements, both in the place of the second item.
 const ALTERED: &str =
-    "000000185144020100000000000000010000000000000000000000006914241f30a3f0b15c05f80c4a9b3ea3";
+    "0000001851440201000000000000000100000000000000000000000015c69b14e2d429b121d2badeb7b964ca";
 
 const OTHER_KEY: &str =
-    "000000185144020000000000000000010000000000000000000000000f2a781d3ffae0e9601672c1bca1a093";
+    "0000001851440200000000000000000100000000000000000000000011f335075bed9652448c2a7ac9f0ca86";
 
 // Acknowledgements of 0 and 84 bytes, of a refused frame and of an acceptor that is behind, each with its tag but for the last byte, and one
 // of 0 bytes under the key of items.
-const ACKNOWLEDGED_NONE: &str = "00000000000000000db7564ac6e5c48b6baac676810281";
+const ACKNOWLEDGED_NONE: &str = "0000000000000000c0a771de4bd67bb758578f938819ad";
 
-const ACKNOWLEDGED_84: &str = "00000000000000544929c9ce3f27cb61a61f968d28fda9";
+const ACKNOWLEDGED_84: &str = "0000000000000054dbf670ac51baf75133df4b34adeb31";
 
-const ACKNOWLEDGED_REFUSED: &str = "fffffffffffffffff51f401b224dc018490d076a65a304";
+const ACKNOWLEDGED_REFUSED: &str = "fffffffffffffffffd365dcab3f129044efa6ccc837715";
 
-const ACKNOWLEDGED_BEHIND: &str = "fffffffffffffffedd12a4ad6cd402c9423bd38bc5c5f5";
+const ACKNOWLEDGED_BEHIND: &str = "fffffffffffffffef29aa883cbb2270d9da35cf099abab";
 
-const UNDER_ITEM_KEY: &str = "00000000000000004b63869ea31f456e1b2f52167b73a3cb";
+const UNDER_ITEM_KEY: &str = "0000000000000000e77b2f31e6c47bdfd62fcf4dc54aa2d5";
 
 // The bytes of some parts, each in hexadecimal.
 fn all_bytes(rt: &impl Abort, alloc: Global, parts: &[&str]) -> Vec<u8> {
@@ -129,7 +129,7 @@ fn items_come_up_to_the_first_fault(rt: HostRuntime) {
     assert_received(
         &rt,
         alloc,
-        &["0000000040fa884b39795e6eca25722841961efe"],
+        &["00000000b71c7c3c20501223c6b938ddcad1eaa5"],
         0,
         wrong_tag,
     );
@@ -203,7 +203,7 @@ fn a_sink_and_a_source_fail_in_the_middle(rt: HostRuntime) {
     let mut sink = MemorySink::failing(alloc, 5, 2);
     let mut sender = ItemSender::new(key(&rt, ITEM_KEY));
     assert!(rt; sender.send_beat(&mut sink) == Err(SendFault::Failed));
-    assert_bytes(&rt, alloc, sink.as_slice(), "0000000040fa884b3979");
+    assert_bytes(&rt, alloc, sink.as_slice(), "00000000b71c7c3c2050");
     drop(sender);
     drop(sink);
 
@@ -250,22 +250,22 @@ fn acknowledgements_come_back(rt: HostRuntime) {
     let alloc = rt.alloc();
     let mut receiver = AcknowledgementReceiver::new(alloc, key(&rt, ACKNOWLEDGEMENT_KEY));
     let taken = Acknowledgement::Taken(0);
-    let pieces = [ACKNOWLEDGED_NONE, "13"];
+    let pieces = [ACKNOWLEDGED_NONE, "63"];
     assert_back(&rt, alloc, &mut receiver, pieces, taken);
     let taken = Acknowledgement::Taken(84);
-    let pieces = [ACKNOWLEDGED_84, "14"];
+    let pieces = [ACKNOWLEDGED_84, "9c"];
     assert_back(&rt, alloc, &mut receiver, pieces, taken);
     let refused = Acknowledgement::Refused;
-    let pieces = [ACKNOWLEDGED_REFUSED, "8d"];
+    let pieces = [ACKNOWLEDGED_REFUSED, "78"];
     assert_back(&rt, alloc, &mut receiver, pieces, refused);
     let behind = Acknowledgement::Behind;
-    let pieces = [ACKNOWLEDGED_BEHIND, "7b"];
+    let pieces = [ACKNOWLEDGED_BEHIND, "11"];
     assert_back(&rt, alloc, &mut receiver, pieces, behind);
 
     // The first one again, and one under the key of items.
     assert!(rt; fed(&rt, alloc, &mut receiver, ACKNOWLEDGED_NONE) == Ok(None));
     let wrong = Err(ReceiveFault::WrongTag);
-    assert!(rt; fed(&rt, alloc, &mut receiver, "13") == wrong);
+    assert!(rt; fed(&rt, alloc, &mut receiver, "63") == wrong);
     assert!(rt; receiver.next_acknowledgement() == wrong);
     assert!(rt; receiver.feed(b"") == Err(ReceiveFault::WrongTag));
     drop(receiver);
@@ -290,13 +290,13 @@ fn acknowledgements_are_sent(rt: HostRuntime) {
     drop(sender);
     let parts = [
         ACKNOWLEDGED_NONE,
-        "13",
+        "63",
         ACKNOWLEDGED_84,
-        "14",
+        "9c",
         ACKNOWLEDGED_REFUSED,
-        "8d",
+        "78",
         ACKNOWLEDGED_BEHIND,
-        "7b",
+        "11",
     ];
     let wanted = all_bytes(&rt, alloc, &parts);
     assert!(rt; sink.as_slice() == wanted.as_slice());

@@ -288,6 +288,7 @@ fn launch_of(
         number: test.number,
         store: [test.store; 16],
         starts: 1,
+        process: [test.store; 16],
         queues: queues_digest(&list),
     };
     let mut addresses = Vec::new(alloc);

@@ -7,7 +7,7 @@ use Rattle.link_hello.specs.Refusals.{IsNumberOf}
 use Rattle.link_hello.specs.declared.card.Card.{Card}
 use Rattle.link_hello.specs.declared.hello_fault.HelloFault.TheVariants.{IsRefused, Silent}
 use Rattle.link_hello.specs.declared.refusal.Refusal.{Refusal}
-use Rattle.link_hello.specs.declared.refusal.Refusal.TheVariants.{Itself, NoSuchSite, OlderCopy, OtherQueues, SameNumber, TakenNumber, Unknown, WrongSecret}
+use Rattle.link_hello.specs.declared.refusal.Refusal.TheVariants.{Itself, NoSuchSite, OlderCopy, OtherQueues, SameNumber, SecondCopy, TakenNumber, Unknown, WrongSecret}
 use Rattle.link_hello.specs.declared.transcript.Transcript.{Transcript}
 use Rattle.link_hello.proofs.Offers.{cut_offer, offered, offered_then, waited}
 use Rattle.link_hello.proofs.Silences.{fewer, silence_grows, up_to_grows}
@@ -30,6 +30,7 @@ refused before after key nonce own Itself t verdict number not_six nonce_is card
 refused before after key nonce own SameNumber t verdict number not_six nonce_is card_is came = (t, verdict, number, nonce_is, card_is, came)
 refused before after key nonce own TakenNumber t verdict number not_six nonce_is card_is came = (t, verdict, number, nonce_is, card_is, came)
 refused before after key nonce own OlderCopy t verdict number not_six nonce_is card_is came = (t, verdict, number, nonce_is, card_is, came)
+refused before after key nonce own SecondCopy t verdict number not_six nonce_is card_is came = (t, verdict, number, nonce_is, card_is, came)
 refused before after key nonce own Unknown t verdict number not_six nonce_is card_is came = (t, verdict, number, nonce_is, card_is, came)
 
 pub returns-then-not-same_bytes-clause-fault : goal.returns-then-not-same_bytes-clause-fault
@@ -87,12 +88,12 @@ returns-in_err-verdict-clause-waits g c = λ is.
     let same : c.from_residual-in_err-verdict.result ≡ Err c.in_err-verdict.field-0.0 = search rules in
     let silent : c.in_err-verdict.field-0.0 ≡ Silent = cc (same, is) in
     inr (waited _ _ _ _ _ _ c.args.key.now c.args.nonce.now c.in_ok-theirs.theirs c.args.own.now c.in_ok-theirs.ensures.length c.in_ok-theirs.ensures.read
-    (fewer _ _ 0 89 (c.in_err-verdict.ensures.few (ap Err silent)) (omega arith)) c.in_ok-write_opening.ensures.written c.in_ok-write_offer.ensures.written)
+    (fewer _ _ 0 105 (c.in_err-verdict.ensures.few (ap Err silent)) (omega arith)) c.in_ok-write_opening.ensures.written c.in_ok-write_offer.ensures.written)
 
 pub returns-in_err-card-clause-waits : goal.returns-in_err-card-clause-waits
 returns-in_err-card-clause-waits g c = λ is.
     inr (waited _ _ _ _ _ _ c.args.key.now c.args.nonce.now c.in_ok-theirs.theirs c.args.own.now c.in_ok-theirs.ensures.length c.in_ok-theirs.ensures.read
-    (up_to_grows _ _ _ (c.in_ok-verdict.verdict ∷ []) 88 89 c.in_ok-verdict.ensures.read.0 c.in_err-card.ensures.few (omega arith))
+    (up_to_grows _ _ _ (c.in_ok-verdict.verdict ∷ []) 104 105 c.in_ok-verdict.ensures.read.0 c.in_err-card.ensures.few (omega arith))
     c.in_ok-write_opening.ensures.written c.in_ok-write_offer.ensures.written)
 
 pub returns-in_err-write_offer-clause-unsent : goal.returns-in_err-write_offer-clause-unsent

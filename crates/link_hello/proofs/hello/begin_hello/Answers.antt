@@ -25,8 +25,8 @@ pub returns-in_err-theirs-clause-few : goal.returns-in_err-theirs-clause-few
 returns-in_err-theirs-clause-few g c = λ is.
     let same : c.from_residual-in_err-theirs.result ≡ Err c.in_err-theirs.field-0.0 = search rules in
     let silent : c.in_err-theirs.field-0.0 ≡ Silent = cc (same, is) in
-    fewer _ _ 36 125 (c.in_err-theirs.ensures.few (ap Err silent)) (omega arith)
+    fewer _ _ 36 141 (c.in_err-theirs.ensures.few (ap Err silent)) (omega arith)
 
 pub returns-in_err-card-clause-few : goal.returns-in_err-card-clause-few
 returns-in_err-card-clause-few g c = λ is.
-    opening_then _ _ _ c.in_ok-theirs.theirs 88 125 c.in_ok-theirs.ensures.read c.in_ok-theirs.ensures.length c.in_err-card.ensures.few (omega arith)
+    opening_then _ _ _ c.in_ok-theirs.theirs 104 141 c.in_ok-theirs.ensures.read c.in_ok-theirs.ensures.length c.in_err-card.ensures.few (omega arith)
