@@ -14,4 +14,4 @@ pub use site_database::SiteDatabase;
 pub use site_file::{OpenedFile, RestoredFile, SiteFile};
 pub use site_file_fault::SiteFileFault;
 pub use site_store::OpenFault;
-pub use store_in_file::{StoreInFile, StorePath};
+pub use store_in_file::StoreInFile;

@@ -13,6 +13,7 @@ mod opening;
 mod service_fault;
 mod serving;
 mod starting;
+mod store_path;
 
 pub use addresses::Listeners;
 pub use linked_site::EndReason;
@@ -20,3 +21,4 @@ pub use linking::{serve_linked_file, serve_volatile};
 pub use links::LinkedRequest;
 pub use service_fault::ServiceFault;
 pub use serving::{serve_new_sites, serve_site_files};
+pub use store_path::StorePath;

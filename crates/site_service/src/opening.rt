@@ -3,11 +3,11 @@ ghost use Rattle.std.specs.Prelude.{◌≡◌, [], IfErr, IfOk, IsTrue};
 ghost use Rattle.stored_threads.specs.NewStores.{IsNewStore};
 ghost use Rattle.site_service.specs.Refusals.{IsRefusal};
 
-use crate::ServiceFault;
+use crate::{ServiceFault, StorePath};
 use dots::SiteId;
 use event_log::EventLog;
 use replica::QueueList;
-use site_files::{OpenFault, SiteFile, SiteFileFault, StoreInFile, StorePath};
+use site_files::{OpenFault, SiteFile, SiteFileFault, StoreInFile};
 use std::alloc::Global;
 use std::sync::Wait;
 

@@ -7,14 +7,14 @@ ghost use Rattle.ami_text.specs.Devices.{HasTaken};
 ghost use Rattle.server.specs.Listening.{listening_lines};
 ghost use Rattle.site_service.specs.Refusals.{IsRefusal};
 
-use crate::ServiceFault;
 use crate::starting::{open_stores, start_sites};
+use crate::{ServiceFault, StorePath};
 use ami_text::Sink;
 use event_log::EventLog;
 use replica::QueueList;
 use server::{ServeSitesFault, serve_sites, serve_stored_sites};
 use serving_clients::ServerSettings;
-use site_files::{StoreInFile, StorePath};
+use site_files::StoreInFile;
 use std::alloc::Global;
 use std::net::{Net, TcpListener, TcpStream};
 use std::sync::{Arc, Wait};
