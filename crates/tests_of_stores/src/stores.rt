@@ -143,6 +143,19 @@ fn an_open_transaction_is_refused(rt: HostRuntime) {
     close(store);
 }
 
+#[test]
+fn a_start_is_rolled_back_with_its_transaction(rt: HostRuntime) {
+    let alloc = rt.alloc();
+    let mut store = new_store(&rt, alloc);
+    run(&rt, &mut store, "BEGIN");
+    start(&rt, alloc, &mut store, 6);
+    run(&rt, &mut store, "ROLLBACK");
+    assert_rows(&rt, alloc, &mut store, 5, &[1]);
+    start(&rt, alloc, &mut store, 6);
+    assert_rows(&rt, alloc, &mut store, 5, &[1, 6]);
+    close(store);
+}
+
 // Asserts whether a database has no table, and whether it has the table of steps alone.
 fn assert_shape(rt: &impl Abort, store: &Store, is_blank: bool, is_store: bool) {
     let schema = store.schema();
