@@ -21,12 +21,18 @@ use site_desk::{Pass, SiteDesk};
 use site_journal::{DecodeFault, DecodedFrame, DeskFault, Receipt, TakeFault};
 use status_report::Ask;
 use std::marker::Model;
-use std::sync::atomic::{AtomicBool, Ordering};
+use std::sync::atomic::{AtomicBool, AtomicU64, Ordering};
 use std::sync::{Mutex, MutexGuard, Wait};
 use std::thread;
+use std::time::Duration;
 
 // How many bytes the steps that aren't saved may keep beside themselves where a step is begun: 4 MiB.
 const MOST_UNSAVED_BYTES: u64 = 4 << 20;
+
+// Sleeps for about a millisecond.
+fn pause<R: Wait>(rt: &R) {
+    AtomicU64::new(0).park_timeout(rt, 0, Duration::from_millis(1));
+}
 
 // How steps are saved: alone; with a drop of the journal's steps; with that, and with the site after them in their place.
 #[derive(Clone, Copy)]
@@ -191,14 +197,15 @@ impl<S: StepStore, L: StoredLedger> StoredDesk<S, L> {
         }
     }
 
-    // Saves the first `end` steps, and tries again while it is out of memory. The fault is `Unsaved`: the store has failed.
+    // Saves the first `end` steps, and tries again each millisecond while it is out of memory. The fault is `Unsaved`: the store has
+    // failed.
     fn save_anyhow<R: Wait>(&self, rt: &R, end: u64) -> Result<(), DeskFault>
         ensures { IfErr result (λ fault. fault ≡ DeskFault.Unsaved) }
     {
         for _ in rt.forever() {
             match self.save_first(rt, end, Way::Steps) {
                 Ok(()) => return Ok(()),
-                Err(DeskFault::Memory) => thread::yield_now(),
+                Err(DeskFault::Memory) => pause(rt),
                 Err(_) => return Err(DeskFault::Unsaved),
             }
         }
@@ -434,6 +441,15 @@ impl<S: StepStore, L: StoredLedger> StoredDesk<S, L> {
     {
         let wanted = self.site.lock(rt).len();
         self.save_first(rt, wanted, Way::Steps)
+    }
+
+    /// Does as `settle_all`, and tries again each millisecond while it is out of memory. The error is `Unsaved`, as of `settle_all`. No
+    /// contract says what is saved.
+    pub fn settle_anyhow<R: Wait>(&self, rt: &R) -> Result<(), DeskFault>
+        ensures { IfErr result (λ fault. fault ≡ DeskFault.Unsaved) }
+    {
+        let wanted = self.site.lock(rt).len();
+        self.save_anyhow(rt, wanted)
     }
 
     /// Where no step may be added, saves all that the site has done so far, and drops the steps of the journal with that; else it returns

@@ -14,7 +14,7 @@ use crate::{StoredSiteOutput, StoredSiteTasks, StoredTask};
 use dots::Memory;
 use replica::Replica;
 use site_desk::{Pass, SiteDesk};
-use site_journal::{DeskFault, Journaled};
+use site_journal::Journaled;
 use site_threads::{
     Launch, SiteFault, SiteOutput, Start, TaskOutput, TaskResults, close_site, run_threads,
 };
@@ -22,24 +22,10 @@ use std::alloc::Global;
 use std::marker::Brand;
 use std::sync::Wait;
 use std::sync::ledger::Blank;
-use std::thread;
 use std::thread::Threads;
 use stored_desk::{
     CommitFault, NewHistory, NewMark, SavedSteps, StepStore, StoredDesk, StoredLedger,
 };
-
-// Saves all steps that the site has done, and tries again while it is out of memory. Returns whether all are saved:
-// `false` where the store has failed. No contract says this.
-fn settle<D: StepStore, L: StoredLedger, R: Wait>(rt: &R, desk: &StoredDesk<D, L>) -> bool {
-    for _ in rt.forever() {
-        match desk.settle_all(rt) {
-            Ok(()) => return true,
-            Err(DeskFault::Memory) => thread::yield_now(),
-            Err(_) => return false,
-        }
-    }
-    unreachable!()
-}
 
 // The store of what was saved, and why steps may be missing in it, if they may: a commit has failed, or (`Other`) not all
 // are saved, or no store came back.
@@ -64,7 +50,7 @@ fn store_of<D: StepStore, L: StoredLedger>(
     }
 }
 
-// Saves all steps of a site whose tasks are all done, as `settle` does, and closes its desk. Where not all are saved, the
+// Saves all steps of a site whose tasks are all done, as `settle_anyhow` does, and closes its desk. Where not all are saved, the
 // result says why.
 fn close_stored_site<D: StepStore, L: StoredLedger, R: Wait, T: TaskOutput>(
     rt: &R,
@@ -76,7 +62,7 @@ fn close_stored_site<D: StepStore, L: StoredLedger, R: Wait, T: TaskOutput>(
         → AreDone T.gives L.site L.names tasks all.passes.items all.outputs.items
         → HasStoredEnd T.gives D.holds D.keeps D.begun replica L.limit tasks result }
 {
-    let are_all_saved = settle(rt, &desk);
+    let are_all_saved = desk.settle_anyhow(rt).is_ok();
     let (desk, saved) = desk.into_parts();
     let SiteOutput { journal, outputs } = close_site::<L, T>(desk, all);
     let (store, fault) = store_of(saved, are_all_saved);
