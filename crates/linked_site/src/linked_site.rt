@@ -6,9 +6,10 @@ ghost use Rattle.linked_site.specs.Cards.{card_of};
 use crate::link_settings::random_name;
 use crate::tasks::accepting_tasks;
 use crate::{LinkSettings, LinkedSiteFault};
+use dots::SiteId;
 use link_hello::{Card, queues_digest};
 use peer_box::BOX_BYTES;
-use replica::Replica;
+use replica::QueueList;
 use serving_clients::{ClientSettings, Clients};
 use site_desk::SiteBell;
 use site_peers::{EndReason, LinkLog, PeerLinks, Ring, end_links};
@@ -53,34 +54,35 @@ pub(crate) struct LinkedSite {
     pub accepting: AtomicU64,
 }
 
-// The card of this site: its number and its queues, the store and the start that its settings name, and the name of its process.
-fn card_of(replica: &Replica, links: &LinkSettings, process: [u8; 16]) -> Card
-    ensures { result ≡ card_of replica.now links.now process }
+// The card of a site of this number, with these queues: the store and the start are those of its settings, and its process has this name.
+fn card_of(site: SiteId, list: &QueueList, links: &LinkSettings, process: [u8; 16]) -> Card
+    ensures { result ≡ card_of site list.now links.now process }
 {
     Card {
-        number: replica.site().number() as u8,
+        number: site.number() as u8,
         store: links.store,
         starts: links.starts,
         process,
-        queues: queues_digest(replica.list()),
+        queues: queues_digest(list),
     }
 }
 
 impl LinkedSite {
-    // What the threads of this site share, which accepts clients and links at these listeners. It shows its card in its hellos; 16 random
-    // bytes name its process. Errors, in order: `NoRandom`, `NoAddress`, `Memory`; all is dropped then.
+    // What the threads of a site of this number share, which has these queues, and accepts clients and links at these listeners. It shows
+    // its card in its hellos; 16 random bytes name its process. Errors, in order: `NoRandom`, `NoAddress`, `Memory`; all is dropped then.
     pub fn new<R: RandomSource>(
         rt: &R,
         alloc: Global,
         settings: &ClientSettings<'_>,
         links: LinkSettings,
-        replica: &Replica,
+        site: SiteId,
+        list: &QueueList,
         clients: TcpListener,
         heard: TcpListener,
     ) -> Result<LinkedSite, LinkedSiteFault>
-        ensures card { IfOk result (λ site. (process : List ℕ)
-            × (links_card site.links ≡ card_of replica.now links process)) }
-        ensures key { IfOk result (λ site. links_key site.links ≡ links.key) }
+        ensures card { IfOk result (λ shared. (process : List ℕ)
+            × (links_card shared.links ≡ card_of site list.now links process)) }
+        ensures key { IfOk result (λ shared. links_key shared.links ≡ links.key) }
     {
         let process = match random_name(rt) {
             Ok(process) => process,
@@ -101,7 +103,7 @@ impl LinkedSite {
                 return Err(LinkedSiteFault::NoAddress(error));
             }
         };
-        let Ok(clients) = Clients::new(alloc, replica.site(), clients, settings) else {
+        let Ok(clients) = Clients::new(alloc, site, clients, settings) else {
             drop(links);
             drop(heard);
             return Err(LinkedSiteFault::Memory);
@@ -110,7 +112,7 @@ impl LinkedSite {
             bell: SiteBell::new(),
             clients,
         };
-        let card = card_of(replica, &links, process);
+        let card = card_of(site, list, &links, process);
         let LinkSettings { key, peers, .. } = links;
         match PeerLinks::new(alloc, card, key, own, ring, peers, BOX_BYTES) {
             Ok(links) => Ok(LinkedSite {

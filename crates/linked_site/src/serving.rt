@@ -1,12 +1,16 @@
 //! A linked site without a store.
-ghost use Rattle.std.specs.Prelude.{◌≡◌, IfOk, Some, slice_get, vec_len};
-ghost use Rattle.linked_site.specs.LinkedJournals.{IsLinkedJournal};
+ghost use Rattle.std.specs.Prelude.{◌≡◌, ℕ, IfOk, List, Some, slice_get, vec_len};
+ghost use Rattle.replica.specs.Deeds.{IsNew};
+ghost use Rattle.site_peers.specs.Links.{links_card};
+ghost use Rattle.linked_site.specs.Cards.{card_of};
+ghost use Rattle.linked_site.specs.LinkedJournals.{IsLinkedJournal, IsOfNewSite};
 
 use crate::linked_site::LinkedSite;
 use crate::site_end::reason_of;
 use crate::tasks::{LinkedTask, tasks_of};
 use crate::{LinkSettings, LinkedSiteFault, SiteEnd};
-use replica::Replica;
+use dots::SiteId;
+use replica::{QueueList, Replica};
 use serving_clients::ClientSettings;
 use site_peers::EndReason;
 use site_threads::{SiteOutput, SiteTasks, run_sites};
@@ -65,7 +69,48 @@ fn run_site<
     }
 }
 
-/// Serves Manager clients of a site at one listener, and links it to the sites of other processes: it accepts their links at the other
+// What a new site of this number is launched with. Errors, in order: those of `LinkedSite::new`; `Memory`. All is dropped then.
+fn new_site_of<R: RandomSource>(
+    rt: &R,
+    alloc: Global,
+    settings: &ClientSettings<'_>,
+    links: LinkSettings,
+    site: SiteId,
+    list: &QueueList,
+    clients: TcpListener,
+    heard: TcpListener,
+) -> Result<SiteTasks<LinkedSite, LinkedTask>, LinkedSiteFault>
+    ensures site { IfOk result (λ new. new.replica.site ≡ site) }
+    ensures names { IfOk result (λ new. new.replica.names ≡ list.now) }
+    ensures new { IfOk result (λ new. IsNew new.replica) }
+    // The site shows its own number and queues.
+    ensures card { IfOk result (λ new. (process : List ℕ)
+        × (links_card new.shared.links ≡ card_of site list.now links process)) }
+{
+    let peers = links.peers.len();
+    let shared = LinkedSite::new(rt, alloc, settings, links, site, list, clients, heard)?;
+    let tasks = match tasks_of(alloc, settings.session.places, peers, false) {
+        Ok(tasks) => tasks,
+        Err(_) => {
+            drop(shared);
+            return Err(LinkedSiteFault::Memory);
+        }
+    };
+    match list.copy() {
+        Ok(list) => Ok(SiteTasks {
+            replica: Replica::new(alloc, site, list),
+            shared,
+            tasks,
+        }),
+        Err(_) => {
+            drop(shared);
+            drop(tasks);
+            Err(LinkedSiteFault::Memory)
+        }
+    }
+}
+
+/// Serves Manager clients of a new site at one listener, and links it to the sites of other processes: it accepts their links at the other
 /// listener, and dials each peer. At most `settings.session.places` clients are answered at once; further ones wait, in order. Each change
 /// rings the site's bell, and the site then sends its changes to all peers that are connected. Each peer gets a frame of all that the site
 /// knows when it connects. The steps of the site's journal are dropped when there are 1,000, and when they keep more than 64 MiB.
@@ -90,33 +135,13 @@ pub fn serve_linked_site<
     alloc: Global,
     settings: &ClientSettings<'_>,
     links: LinkSettings,
-    replica: Replica,
+    site: SiteId,
+    list: &QueueList,
     clients: TcpListener,
     heard: TcpListener,
 ) -> Result<SiteEnd, LinkedSiteFault>
-    ensures journal { IfOk result (λ end. IsLinkedJournal replica end.journal) }
+    ensures { IfOk result (λ end. IsOfNewSite site list.now end.journal) }
 {
-    let peers = links.peers.len();
-    let shared = match LinkedSite::new(rt, alloc, settings, links, &replica, clients, heard) {
-        Ok(shared) => shared,
-        Err(fault) => {
-            drop(replica);
-            return Err(fault);
-        }
-    };
-    match tasks_of(alloc, settings.session.places, peers, false) {
-        Ok(tasks) => {
-            let site = SiteTasks {
-                replica,
-                shared,
-                tasks,
-            };
-            run_site(rt, alloc, site)
-        }
-        Err(_) => {
-            drop(replica);
-            drop(shared);
-            Err(LinkedSiteFault::Memory)
-        }
-    }
+    let new = new_site_of(rt, alloc, settings, links, site, list, clients, heard)?;
+    run_site(rt, alloc, new)
 }

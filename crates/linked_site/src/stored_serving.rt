@@ -1,14 +1,15 @@
 //! A linked site with a store.
-ghost use Rattle.std.specs.Prelude.{◌≡◌, IfOk, IfSome, None, Some, slice_get, vec_len};
-ghost use Rattle.stored_threads.specs.NewStores.{IsNewStore};
+ghost use Rattle.std.specs.Prelude.{◌≡◌, ℕ, IfOk, IfSome, List, None, Some, slice_get};
+ghost use Rattle.std.specs.Prelude.{vec_len};
+ghost use Rattle.site_peers.specs.Links.{links_card};
 ghost use Rattle.stored_threads.specs.StoredEnds.{IsStoreOf};
+ghost use Rattle.linked_site.specs.Cards.{card_of};
 ghost use Rattle.linked_site.specs.LinkedJournals.{IsLinkedJournal};
 
 use crate::linked_site::LinkedSite;
 use crate::site_end::reason_of;
 use crate::tasks::{LinkedTask, tasks_of};
 use crate::{JOURNAL_STEPS, LinkSettings, LinkedSiteFault, StoredSiteEnd};
-use replica::Replica;
 use serving_clients::ClientSettings;
 use site_peers::EndReason;
 use std::alloc::Global;
@@ -18,7 +19,7 @@ use std::sync::Wait;
 use std::thread::Threads;
 use std::time::Clock;
 use stored_desk::{CommitFault, StepStore};
-use stored_threads::{StoredSiteOutput, StoredSiteTasks, run_stored_sites};
+use stored_threads::{ResumedSite, StoredSiteOutput, StoredSiteTasks, run_stored_sites};
 
 // What the one site has ended with that was launched.
 fn end_of<D: StepStore>(ends: Vec<StoredSiteOutput<D, Option<EndReason>>>) -> StoredSiteEnd<D>
@@ -49,7 +50,7 @@ fn end_of<D: StepStore>(ends: Vec<StoredSiteOutput<D, Option<EndReason>>>) -> St
     }
 }
 
-// Runs a site over its store, which has no step since the replica, until it ends. Errors: `NoThread`, `Memory`; the store is dropped, and
+// Runs a site over its store until it ends. Errors: `NoThread`, `Memory`; the store is dropped, and
 // no task has begun.
 fn run_site<
     R: Net<Listener = TcpListener, Stream = TcpStream>
@@ -67,10 +68,9 @@ fn run_site<
 where
     D::Group: Send,
     D::Base: Send,
-    requires { IsNewStore D.holds D.keeps D.begun site.replica site.store }
-    ensures journal { IfOk result (λ end. IsLinkedJournal site.replica end.journal) }
+    ensures journal { IfOk result (λ end. IsLinkedJournal site.resumed.replica end.journal) }
     ensures stored { IfOk result (λ end. IfSome end.store (λ store.
-        IsStoreOf D.holds D.keeps D.begun site.replica end.fault store)) }
+        IsStoreOf D.holds D.keeps D.begun site.resumed.replica end.fault store)) }
     ensures lost { IfOk result (λ end. end.store ≡ None
         → end.fault ≡ Some CommitFault.Other) }
 {
@@ -94,43 +94,43 @@ fn site_of<R: RandomSource, D: StepStore>(
     alloc: Global,
     settings: &ClientSettings<'_>,
     links: LinkSettings,
-    replica: Replica,
-    store: D,
+    resumed: ResumedSite<D>,
     clients: TcpListener,
     heard: TcpListener,
 ) -> Result<StoredSiteTasks<D, LinkedSite, LinkedTask>, LinkedSiteFault>
-    ensures replica { IfOk result (λ site. site.replica ≡ replica) }
-    ensures store { IfOk result (λ site. site.store ≡ store) }
+    ensures resumed { IfOk result (λ site. site.resumed ≡ resumed) }
+    // The site shows its own number and queues.
+    ensures card { IfOk result (λ site. (process : List ℕ)
+        × (links_card site.shared.links
+        ≡ card_of resumed.replica.site resumed.replica.names links process)) }
 {
     let peers = links.peers.len();
-    let shared = match LinkedSite::new(rt, alloc, settings, links, &replica, clients, heard) {
+    let (site, list) = (resumed.site(), resumed.list());
+    let shared = match LinkedSite::new(rt, alloc, settings, links, site, list, clients, heard) {
         Ok(shared) => shared,
         Err(fault) => {
-            drop(replica);
-            drop(store);
+            drop(resumed);
             return Err(fault);
         }
     };
     match tasks_of(alloc, settings.session.places, peers, true) {
         Ok(tasks) => Ok(StoredSiteTasks {
-            replica,
-            store,
+            resumed,
             shared,
             tasks,
         }),
         Err(_) => {
-            drop(replica);
-            drop(store);
+            drop(resumed);
             drop(shared);
             Err(LinkedSiteFault::Memory)
         }
     }
 }
 
-/// Serves a site with a store as `serve_linked_site` serves one without. `replica` is the site as its store has it, and `store` has no
-/// step since. Clients are answered once a frame of each peer was taken, or after 4 seconds. No reply leaves before the step that it
-/// answers for is durable, and no frame before its cut is. What the site takes from peers is saved 50 ms after the save before. Once the
-/// store has more than 10,000 rows or 64 MiB since its base, the site becomes its base.
+/// Serves a site that goes on over its store as `serve_linked_site` serves one without. Clients are answered once a frame of each peer was
+/// taken, or after 4 seconds. No reply leaves before the step that it answers for is durable, and no frame before its cut is. What the site
+/// takes from peers is saved 50 ms after the save before. Once the store has more than 10,000 rows or 64 MiB since its base, the site
+/// becomes its base.
 ///
 /// It returns when the site has ended: for one of the reasons of `serve_linked_site`, or as `StoreFailed`, since a commit has failed. Then
 /// no further reply leaves, and two lines are logged, with the cause and the reason. Unless a commit has failed, all steps are saved before
@@ -150,21 +150,19 @@ pub fn serve_stored_linked_site<
     alloc: Global,
     settings: &ClientSettings<'_>,
     links: LinkSettings,
-    replica: Replica,
-    store: D,
+    resumed: ResumedSite<D>,
     clients: TcpListener,
     heard: TcpListener,
 ) -> Result<StoredSiteEnd<D>, LinkedSiteFault>
 where
     D::Group: Send,
     D::Base: Send,
-    requires { IsNewStore D.holds D.keeps D.begun replica store }
-    ensures journal { IfOk result (λ end. IsLinkedJournal replica end.journal) }
+    ensures journal { IfOk result (λ end. IsLinkedJournal resumed.replica end.journal) }
     ensures stored { IfOk result (λ end. IfSome end.store (λ store.
-        IsStoreOf D.holds D.keeps D.begun replica end.fault store)) }
+        IsStoreOf D.holds D.keeps D.begun resumed.replica end.fault store)) }
     ensures lost { IfOk result (λ end. end.store ≡ None
         → end.fault ≡ Some CommitFault.Other) }
 {
-    let site = site_of(rt, alloc, settings, links, replica, store, clients, heard)?;
+    let site = site_of(rt, alloc, settings, links, resumed, clients, heard)?;
     run_site(rt, alloc, site)
 }

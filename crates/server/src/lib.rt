@@ -22,7 +22,6 @@ mod sharing;
 mod site;
 mod stored_serving;
 mod stored_site;
-mod stored_start;
 mod stored_working;
 mod working;
 
@@ -33,5 +32,4 @@ pub use serving_clients::{LAST_PORT, ServerSettings, SessionSettings};
 pub use site::JOURNAL_STEPS;
 pub use site_threads::SiteOutput;
 pub use stored_serving::serve_stored_sites;
-pub use stored_start::StoredStart;
-pub use stored_threads::StoredSiteOutput;
+pub use stored_threads::{ResumedSite, StoredSiteOutput};

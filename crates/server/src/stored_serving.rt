@@ -1,21 +1,19 @@
 //! All sites with stores: what each begins with and has to do, and what they end with.
-ghost use Rattle.std.specs.List.{All};
-ghost use Rattle.std.specs.Prelude.{◌≡◌, ◌↔◌, ◌+◌, ◌<◌, ◌≤◌, ℕ, [], IfOk, IsErrOf, OnErr, OnOk};
+ghost use Rattle.std.specs.Prelude.{◌≡◌, ◌↔◌, ◌+◌, ◌<◌, ◌≤◌, ℕ, IfOk, IsErrOf, OnErr, OnOk};
 ghost use Rattle.std.specs.Prelude.{false, true, vec_len};
 ghost use Rattle.std.specs.Io.KnownBytes.{Appends};
 ghost use Rattle.std.specs.declared.io.Error.{Error};
 ghost use Rattle.ami_text.specs.Devices.{HasTaken};
 ghost use Rattle.launcher.specs.Places.{AtEach};
-ghost use Rattle.stored_threads.specs.NewStores.{IsNewStore};
 ghost use Rattle.server.specs.Listening.{listening_lines};
-ghost use Rattle.server.specs.ServedStores.{HasItsStart, HaveServedEnds};
+ghost use Rattle.server.specs.ServedStores.{HaveServedEnds, IsAtItsPlace};
 
+use crate::ServeSitesFault;
 use crate::preparing::{insert_first, prepare_sites};
 use crate::ready_site::ReadySite;
 use crate::site::JOURNAL_STEPS;
 use crate::stored_site::StoredSite;
 use crate::stored_working::{StoredSiteTask, stored_tasks_of};
-use crate::{ServeSitesFault, StoredStart};
 use ami_text::Sink;
 use dots::Memory;
 use event_log::EventLog;
@@ -27,19 +25,18 @@ use std::sync::{Arc, Wait};
 use std::thread::Threads;
 use std::time::Clock;
 use stored_desk::StepStore;
-use stored_threads::{StoredSiteOutput, StoredSiteTasks, run_stored_sites};
+use stored_threads::{ResumedSite, StoredSiteOutput, StoredSiteTasks, run_stored_sites};
 
-// What a site is launched with that begins with `start`, and for which `ready` is ready. Its tasks are those of a site without a store, and
+// What a site over its store is launched with, for which `ready` is ready. Its tasks are those of a site without a store, and
 // one that saves. It waits for a first frame of each peer. It fails when out of memory, or if `has_failed` has too many handles, and drops
 // all.
 fn stored_site_of<D: StepStore>(
     alloc: Global,
-    start: StoredStart<D>,
+    resumed: ResumedSite<D>,
     ready: ReadySite,
     has_failed: &Arc<AtomicBool, Global>,
 ) -> Result<StoredSiteTasks<D, StoredSite, StoredSiteTask>, Memory>
-    ensures replica { IfOk result (λ site. site.replica ≡ start.replica) }
-    ensures store { IfOk result (λ site. site.store ≡ start.store) }
+    ensures { IfOk result (λ site. site.resumed ≡ resumed) }
 {
     let ReadySite {
         shared: site,
@@ -48,13 +45,13 @@ fn stored_site_of<D: StepStore>(
     let running = served.len() as u64;
     let awaited = site.peers() as u64;
     let Ok(has_failed) = Arc::try_clone(has_failed) else {
-        drop(start);
+        drop(resumed);
         drop(site);
         drop(served);
         return Err(Memory);
     };
     let Ok(tasks) = stored_tasks_of(alloc, served) else {
-        drop(start);
+        drop(resumed);
         drop(site);
         drop(has_failed);
         return Err(Memory);
@@ -65,52 +62,50 @@ fn stored_site_of<D: StepStore>(
         awaited: AtomicU64::new(awaited),
         has_failed,
     };
-    let StoredStart { replica, store } = start;
     Ok(StoredSiteTasks {
-        replica,
-        store,
+        resumed,
         shared,
         tasks,
     })
 }
 
-// What each site is launched with, with the start and what is ready at its place: there are as many of both. All sites share whether one
+// What each site is launched with, which has the site and what is ready at its place: there are as many of both. All sites share whether one
 // has failed; none has yet. It fails only when out of memory, and drops all.
 fn stored_sites_of<D: StepStore>(
     alloc: Global,
-    starts: Vec<StoredStart<D>>,
+    resumed: Vec<ResumedSite<D>>,
     ready: Vec<ReadySite>,
 ) -> Result<Vec<StoredSiteTasks<D, StoredSite, StoredSiteTask>>, Memory>
-    requires starts { vec_len starts ≡ vec_len ready }
-    ensures number { IfOk result (λ sites. vec_len sites ≡ vec_len starts) }
+    requires { vec_len resumed ≡ vec_len ready }
+    ensures number { IfOk result (λ sites. vec_len sites ≡ vec_len resumed) }
     ensures each { IfOk result (λ sites.
-        AtEach (λ place site. HasItsStart starts.items place site) sites.items) }
+        AtEach (λ place site. IsAtItsPlace resumed.items place site) sites.items) }
 {
-    let mut starts = starts;
+    let mut resumed = resumed;
     let mut ready = ready;
     let Ok(has_failed) = Arc::new(alloc, AtomicBool::new(false)) else {
-        drop(starts);
+        drop(resumed);
         drop(ready);
         return Err(Memory);
     };
-    let mut sites = match Vec::with_capacity(alloc, starts.len()) {
+    let mut sites = match Vec::with_capacity(alloc, resumed.len()) {
         Ok(sites) => sites,
         Err(_) => {
             drop(has_failed);
-            drop(starts);
+            drop(resumed);
             drop(ready);
             return Err(Memory);
         }
     };
-    while let Some(start) = starts.pop() {
+    while let Some(site) = resumed.pop() {
         let Some(own) = ready.pop() else {
             unreachable!();
         };
-        match stored_site_of(alloc, start, own, &has_failed) {
+        match stored_site_of(alloc, site, own, &has_failed) {
             Ok(site) => insert_first(&mut sites, site),
             Err(_) => {
                 drop(has_failed);
-                drop(starts);
+                drop(resumed);
                 drop(ready);
                 drop(sites);
                 return Err(Memory);
@@ -118,15 +113,15 @@ fn stored_sites_of<D: StepStore>(
         }
     }
     drop(has_failed);
-    drop(starts);
+    drop(resumed);
     drop(ready);
     Ok(sites)
 }
 
-/// Serves sites with stores at once, as many as `settings` says: `starts` has the replica and the store of each, in the order of their
-/// numbers 0, 1 and so on; a store has no step since its replica. It serves clients as `serve_sites` does, but no reply and no frame leaves
-/// a site before its step is in the site's store. When it begins, each site sends all that it knows to the others, since a frame of before
-/// may not have been sent. A site answers clients once it has taken or refused a frame of each other one, or after 4 seconds.
+/// Serves sites with stores at once, as many as `settings` says: those of `resumed`, in the order of their numbers 0, 1 and so on.
+/// It serves clients as `serve_sites` does, but no reply and no frame leaves a site before its step is in the site's store. When it begins,
+/// each site sends all that it knows to the others, since a frame of before may not have been sent. A site answers clients once it has
+/// taken or refused a frame of each other one, or after 4 seconds.
 ///
 /// What nobody waits for is saved 50 ms after the save before. A store that has more than 10,000 rows or 64 MiB beside its base gets a new
 /// base. Once a site has ended, all its steps are in its store, unless a commit has failed.
@@ -147,7 +142,7 @@ pub fn serve_stored_sites<
     rt: &R,
     alloc: Global,
     settings: &ServerSettings,
-    starts: Vec<StoredStart<D>>,
+    resumed: Vec<ResumedSite<D>>,
     sessions: Option<u32>,
     log: &mut W,
     events: &Arc<EventLog, Global>,
@@ -155,14 +150,12 @@ pub fn serve_stored_sites<
 where
     D::Group: Send,
     D::Base: Send,
-    requires starts { vec_len starts ≡ settings.now.sites }
-    requires stores { All (λ start.
-        IsNewStore D.holds D.keeps D.begun start.replica start.store) starts.items }
+    requires number { vec_len resumed ≡ settings.now.sites }
     requires log { W.failed log.old ≡ false }
     ensures number { IfOk result (λ ends. vec_len ends ≡ settings.now.sites) }
-    // The outputs stand in the order of the starts.
+    // The outputs stand in the order of the sites.
     ensures each { IfOk result (λ ends.
-        HaveServedEnds D.holds D.keeps D.begun starts.items ends.items) }
+        HaveServedEnds D.holds D.keeps D.begun resumed.items ends.items) }
     ensures written { OnOk result (Appends (W.taken log.old) (W.taken log.new)
         (listening_lines settings.now.address settings.now.port settings.now.sites)) }
     ensures port { (port : ℕ) (reason : Error)
@@ -181,11 +174,11 @@ where
     let ready = match prepare_sites(rt, alloc, settings, sessions, log, events) {
         Ok(ready) => ready,
         Err(fault) => {
-            drop(starts);
+            drop(resumed);
             return Err(fault);
         }
     };
-    let sites = stored_sites_of(alloc, starts, ready)?;
+    let sites = stored_sites_of(alloc, resumed, ready)?;
     let ends = run_stored_sites(rt, alloc, JOURNAL_STEPS, sites)?;
     Ok(ends)
 }

@@ -1,6 +1,7 @@
 //! The store of a site in a file: opens the file at a path, or makes a new one, and restores its site, which then goes on over it.
 //!
-//! [`StoreInFile`] is a store that can be opened so, for code that needs no more of it.
+//! [`StoreInFile`] is a store that can be opened so, for code that needs no more of it. A [`SiteFile`] has the site and its store as one
+//! value, so that nothing serves the site without its store.
 #![tactic(auto)]
 
 mod opening;

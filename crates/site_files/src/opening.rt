@@ -1,16 +1,17 @@
 //! Opens the file of a site's store, and begins a start of the site.
-ghost use Rattle.std.specs.Prelude.{◌≡◌, ◌↔◌, ◌≤◌, ◌++◌, IfOk, IsTrue, codes};
+ghost use Rattle.std.specs.Prelude.{◌≡◌, ◌↔◌, ◌≤◌, ◌++◌, [], IfOk, IsTrue, codes};
 ghost use Rattle.std.specs.Prelude.{decimal, string_bytes};
 ghost use Rattle.sqlite.specs.Files.{file_state};
 ghost use Rattle.sqlite.specs.Start.{FindsIn};
 ghost use Rattle.sqlite.specs.State.{HasCleanDisk};
 ghost use Rattle.sqlite.specs.WalFiles.{image_at};
 ghost use Rattle.replica.specs.Deeds.{IsNew};
-ghost use Rattle.replica.specs.Site.{SiteState};
+ghost use Rattle.replica.specs.Site.{IsSameSite, SiteState};
 ghost use Rattle.site_journal.specs.declared.journaled.TheConstants.{MOST_STEPS};
 ghost use Rattle.stored_steps.specs.Bases.{IsRowOfBase};
 ghost use Rattle.step_database.specs.Restored.{AddsStart, IsRestored};
-ghost use Rattle.site_files.specs.Opened.{GoesOn, HoldsRowsOf, IsFirstStart};
+ghost use Rattle.stored_threads.specs.ResumedSites.{IsNewStore};
+ghost use Rattle.site_files.specs.Opened.{HoldsRowsOf, IsFirstStart};
 
 use crate::{OpenedFile, RestoredFile, SiteFile, SiteFileFault};
 use dots::{Memory, SiteId};
@@ -24,7 +25,9 @@ use std::io::ErrorKind;
 use std::path::Path;
 use std::random::RandomSource;
 use step_database::{RestoredDatabase, StepDatabase};
+use stored_desk::StepStore;
 use stored_steps::{NAME_BYTES, StoredRow, row_of_base};
+use stored_threads::ResumedSite;
 
 /// The name of the file of this site's store in a folder: `FOLDER/site-K.db`. Fails only when out of memory.
 pub fn file_of_site(alloc: Global, folder: &str, site: SiteId) -> Result<String, Memory>
@@ -84,6 +87,32 @@ pub fn restore_site_file<S: Start>(
     RestoredDatabase::restore(rt.alloc(), conn, site, list, limit)
 }
 
+// A site that goes on over a store, which has no step yet, has this name, and was started so often.
+pub(crate) fn site_file<D: StepStore>(
+    replica: Replica,
+    store: D,
+    name: [u8; NAME_BYTES],
+    starts: u64,
+) -> SiteFile<D>
+    requires holds { D.holds store [] }
+    requires keeps { D.keeps store [] }
+    requires begun { IsSameSite (D.begun store) replica }
+    ensures replica { result.resumed.replica ≡ replica }
+    ensures store { result.resumed.store ≡ store }
+    ensures name { result.name ≡ name }
+    ensures starts { result.starts ≡ starts }
+    ensures is_new { IsTrue result.is_new ↔ IsFirstStart result }
+    ensures new { IsNewStore D.holds D.keeps D.begun replica store }
+{
+    let is_new = is_first_start(starts, &replica);
+    SiteFile {
+        resumed: ResumedSite::new(replica, store),
+        name,
+        starts,
+        is_new,
+    }
+}
+
 /// A start of the restored site of a file: the site, and its store. The row of the start is added, in a commit of its own. If `keeps`, the
 /// store keeps from then on the rows in whose place a base is put, by another commit; a store that has begun to keep rows goes on.
 ///
@@ -93,22 +122,16 @@ pub fn resume_site_file<S: Start>(
     keeps: bool,
 ) -> Result<OpenedFile<S>, OpenFault>
     requires restored { IsRestored (file_state restored.conn) restored }
-    ensures replica { IfOk result (λ it. it.replica ≡ restored.replica) }
-    ensures goes_on { IfOk result (λ it. GoesOn (file_state it.store.conn) it) }
+    ensures replica { IfOk result (λ it. it.resumed.replica ≡ restored.replica) }
+    ensures name { IfOk result (λ it. it.name ≡ it.resumed.store.origin.name) }
+    ensures starts { IfOk result (λ it. it.starts ≡ it.resumed.store.origin.starts) }
     ensures adds { IfOk result (λ it.
-        AddsStart keeps (file_state restored.conn) (file_state it.store.conn)) }
+        AddsStart keeps (file_state restored.conn) (file_state it.resumed.store.conn)) }
     ensures is_new { IfOk result (λ it. IsTrue it.is_new ↔ IsFirstStart it) }
 {
     let (store, replica) = StepDatabase::resume(restored, keeps)?;
     let (name, starts) = (*store.name(), store.starts());
-    let is_new = is_first_start(starts, &replica);
-    Ok(SiteFile {
-        store,
-        replica,
-        name,
-        starts,
-        is_new,
-    })
+    Ok(site_file(replica, store, name, starts))
 }
 
 // The row of the base of a new site with these queues, over a store that has this name and was never started. Fails only when out of

@@ -1,6 +1,6 @@
 ghost use Rattle.std.specs.Prelude.{[], ◌≡◌};
 
-use crate::opening::{open_site_file, resume_site_file};
+use crate::opening::{open_site_file, site_file};
 use crate::{OpenFault, RestoredFile, SiteFile, SiteFileFault, StoreInFile};
 use dots::{Memory, SiteId};
 use replica::{QueueList, Replica};
@@ -100,19 +100,8 @@ impl StoreInFile for SiteDatabase {
         restored: RestoredFile<Unknown>,
         keeps: bool,
     ) -> Result<SiteFile<SiteDatabase>, OpenFault> {
-        let SiteFile {
-            store,
-            replica,
-            name,
-            starts,
-            is_new,
-        } = resume_site_file(restored, keeps)?;
-        Ok(SiteFile {
-            store: SiteDatabase { rows: store },
-            replica,
-            name,
-            starts,
-            is_new,
-        })
+        let (rows, replica) = StepDatabase::resume(restored, keeps)?;
+        let (name, starts) = (*rows.name(), rows.starts());
+        Ok(site_file(replica, SiteDatabase { rows }, name, starts))
     }
 }

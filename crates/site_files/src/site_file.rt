@@ -1,15 +1,14 @@
-use replica::Replica;
 use sqlite::{FileFrom, FileStore};
 use step_database::{RestoredDatabase, StepDatabase};
+use stored_desk::StepStore;
 use stored_steps::NAME_BYTES;
+use stored_threads::ResumedSite;
 
 /// A site that goes on over its store (this project's own).
 #[derive(Drop)]
-pub struct SiteFile<D: Drop> {
-    /// The site's store, which has no step since this start.
-    pub store: D,
-    /// What the site says before its first step.
-    pub replica: Replica,
+pub struct SiteFile<D: StepStore> {
+    /// The site, and its store.
+    pub resumed: ResumedSite<D>,
     /// The bytes that name the store for ever.
     pub name: [u8; NAME_BYTES],
     /// How often the site was started over the store, this start included; at most 2^64 - 1.

@@ -1,6 +1,7 @@
-ghost use Rattle.std.specs.Prelude.{◌≡◌, ◌≤◌, [], IfOk, IsTrue};
-ghost use Rattle.replica.specs.Site.{IsSameSite};
+ghost use Rattle.std.specs.Prelude.{◌≡◌, ◌↔◌, ◌≤◌, IfOk, IsTrue};
 ghost use Rattle.site_journal.specs.declared.journaled.TheConstants.{MOST_STEPS};
+ghost use Rattle.stored_threads.specs.ResumedSites.{IsNewStore};
+ghost use Rattle.site_files.specs.Opened.{IsFirstStart};
 
 use crate::{OpenFault, SiteFile, SiteFileFault};
 use dots::SiteId;
@@ -50,11 +51,11 @@ pub trait StoreInFile: StepStore {
     /// from then on the rows in whose place a base is put. Errors are those of `resume_site_file`.
     fn resume_site(restored: Self::Restored, keeps: bool) -> Result<SiteFile<Self>, OpenFault>
         requires restored { Self.is_restored restored }
-        ensures replica { IfOk result (λ it. it.replica ≡ Self.restored_site restored) }
-        ensures begun { IfOk result (λ it. IsSameSite (Self.begun it.store) it.replica) }
-        ensures holds { IfOk result (λ it. Self.holds it.store []) }
-        ensures keeps { IfOk result (λ it. Self.keeps it.store []) }
-        ensures name { IfOk result (λ it. it.name ≡ Self.name it.store) }
-        ensures starts { IfOk result (λ it. it.starts ≡ Self.starts it.store) }
-        ensures kept { IfOk result (λ it. IsTrue keeps → Self.keeps_rows it.store) };
+        ensures replica { IfOk result (λ it. it.resumed.replica ≡ Self.restored_site restored) }
+        ensures name { IfOk result (λ it. it.name ≡ Self.name it.resumed.store) }
+        ensures starts { IfOk result (λ it. it.starts ≡ Self.starts it.resumed.store) }
+        ensures kept { IfOk result (λ it. IsTrue keeps → Self.keeps_rows it.resumed.store) }
+        ensures is_new { IfOk result (λ it. IsTrue it.is_new ↔ IsFirstStart it) }
+        ensures new { IfOk result (λ it. IsNewStore Self.holds Self.keeps Self.begun
+            it.resumed.replica it.resumed.store) };
 }

@@ -1,10 +1,8 @@
 //! One site that is linked to others.
-ghost use Rattle.std.specs.Prelude.{◌≡◌, ◌↔◌, ◌≤◌, [], IfErr, IfOk, IsErrOf, IsTrue, OnOk, false};
+ghost use Rattle.std.specs.Prelude.{◌≡◌, ◌↔◌, IfErr, IfOk, IsErrOf, IsTrue, OnOk, false};
 ghost use Rattle.std.specs.Prelude.{length, map, string_bytes, true, vec_len};
 ghost use Rattle.std.specs.Io.KnownBytes.{Appends};
 ghost use Rattle.std.specs.declared.net.socket_addr.SocketAddr.{SocketAddr};
-ghost use Rattle.replica.specs.Deeds.{IsNew};
-ghost use Rattle.stored_threads.specs.NewStores.{IsNewStore};
 ghost use Rattle.site_service.specs.Addresses.{address_lines};
 ghost use Rattle.site_service.specs.Refusals.{IsRefusal};
 
@@ -15,7 +13,6 @@ use crate::{EndReason, LinkedRequest, Listeners, ServiceFault, StorePath};
 use ami_text::Sink;
 use event_log::EventLog;
 use linked_site::{LinkSettings, LinkedSiteFault, serve_linked_site, serve_stored_linked_site};
-use replica::Replica;
 use serving_clients::ClientSettings;
 use site_files::{SiteFile, StoreInFile};
 use std::alloc::Global;
@@ -50,13 +47,15 @@ fn linked_file<D: StoreInFile, R: Wait>(
     place: StorePath<'_>,
     events: &EventLog,
 ) -> Result<(SiteFile<D>, LinkSettings), ServiceFault>
-    ensures new { IfOk result (λ it.
-        IsNewStore D.holds D.keeps D.begun it.0.replica it.0.store) }
-    ensures kept { IfOk result (λ it. IsTrue place.entry.keeps → D.keeps_rows it.0.store) }
+    ensures site { IfOk result (λ it. it.0.resumed.replica.site ≡ request.now.site) }
+    ensures names { IfOk result (λ it.
+        it.0.resumed.replica.names ≡ request.now.list.now) }
+    ensures kept { IfOk result (λ it.
+        IsTrue place.entry.keeps → D.keeps_rows it.0.resumed.store) }
     ensures key { IfOk result (λ it. it.1.key ≡ request.now.key.now) }
     // The site's card is that of its store.
-    ensures store { IfOk result (λ it. it.1.store ≡ D.name it.0.store) }
-    ensures starts { IfOk result (λ it. it.1.starts ≡ D.starts it.0.store) }
+    ensures store { IfOk result (λ it. it.1.store ≡ D.name it.0.resumed.store) }
+    ensures starts { IfOk result (λ it. it.1.starts ≡ D.starts it.0.resumed.store) }
     ensures peers { IfOk result (λ it. vec_len it.1.peers ≡ length request.now.peers.now) }
     ensures texts { IfOk result (λ it.
         map string_bytes it.1.peers.items ≡ map string_bytes request.now.peers.now) }
@@ -75,8 +74,8 @@ fn linked_file<D: StoreInFile, R: Wait>(
     }
 }
 
-// Serves a site over its store, which has no step since the replica, until it ends, and returns why. The journal and the store are dropped.
-// Errors are those of `serve_stored_linked_site`.
+// Serves the site of a file over its store until it ends, and returns why. The journal and the store are dropped. Errors are those of
+// `serve_stored_linked_site`.
 fn serve_file<
     R: Net<Listener = TcpListener, Stream = TcpStream>
         + Threads
@@ -96,16 +95,13 @@ fn serve_file<
 where
     D::Group: Send,
     D::Base: Send,
-    requires { IsNewStore D.holds D.keeps D.begun file.replica file.store }
 {
-    let SiteFile { store, replica, .. } = file;
+    let resumed = file.resumed;
     let Listeners {
         clients,
         links: heard,
     } = listeners;
-    match serve_stored_linked_site::<R, D>(
-        rt, alloc, settings, links, replica, store, clients, heard,
-    ) {
+    match serve_stored_linked_site::<R, D>(rt, alloc, settings, links, resumed, clients, heard) {
         Ok(end) => {
             let reason = end.reason;
             drop(end);
@@ -171,35 +167,8 @@ where
     }
 }
 
-// A new site, and how it is linked. Errors: `NoRandom`; `Memory`, before or after it.
-fn new_site<R: RandomSource>(
-    rt: &R,
-    alloc: Global,
-    request: &LinkedRequest<'_>,
-) -> Result<(Replica, LinkSettings), LinkedSiteFault>
-    ensures site { IfOk result (λ it. it.0.site ≡ request.now.site) }
-    ensures names { IfOk result (λ it. it.0.names ≡ request.now.list.now) }
-    ensures new { IfOk result (λ it. IsNew it.0) }
-    ensures key { IfOk result (λ it. it.1.key ≡ request.now.key.now) }
-    ensures starts { IfOk result (λ it. it.1.starts ≡ 1) }
-    ensures peers { IfOk result (λ it. vec_len it.1.peers ≡ length request.now.peers.now) }
-    ensures texts { IfOk result (λ it.
-        map string_bytes it.1.peers.items ≡ map string_bytes request.now.peers.now) }
-{
-    let links = match links_without_store(rt, alloc, request) {
-        Ok(links) => links,
-        Err(fault) => return Err(fault),
-    };
-    match request.list.copy() {
-        Ok(list) => Ok((Replica::new(alloc, request.site, list), links)),
-        Err(_) => {
-            drop(links);
-            Err(LinkedSiteFault::Memory)
-        }
-    }
-}
-
-// Serves a site without a store until it ends, and returns why. The journal is dropped. Errors are those of `serve_linked_site`.
+// Serves a new site, which stores nothing, until it ends, and returns why. The journal is dropped. Errors are those of
+// `serve_linked_site`.
 fn serve_new<
     R: Net<Listener = TcpListener, Stream = TcpStream>
         + Threads
@@ -211,7 +180,7 @@ fn serve_new<
     rt: &R,
     alloc: Global,
     settings: &ClientSettings<'_>,
-    replica: Replica,
+    request: &LinkedRequest<'_>,
     links: LinkSettings,
     listeners: Listeners,
 ) -> Result<EndReason, LinkedSiteFault> {
@@ -219,7 +188,8 @@ fn serve_new<
         clients,
         links: heard,
     } = listeners;
-    match serve_linked_site(rt, alloc, settings, links, replica, clients, heard) {
+    let (site, list) = (request.site, request.list);
+    match serve_linked_site(rt, alloc, settings, links, site, list, clients, heard) {
         Ok(end) => {
             let reason = end.reason;
             drop(end);
@@ -258,8 +228,8 @@ pub fn serve_volatile<
     ensures write { IsErrOf result ServiceFault.Write ↔ (W.failed log.new ≡ true) }
     ensures works { OnOk result (W.failed log.new ≡ false) }
 {
-    let (replica, links) = match new_site(rt, alloc, request) {
-        Ok(site) => site,
+    let links = match links_without_store(rt, alloc, request) {
+        Ok(links) => links,
         Err(fault) => {
             drop(listeners);
             return Err(ServiceFault::Linked(fault));
@@ -267,12 +237,11 @@ pub fn serve_volatile<
     };
     if let Err(fault) = write_addresses(alloc, log, &listeners) {
         drop(listeners);
-        drop(replica);
         drop(links);
         return Err(fault);
     }
     let settings = clients_of(request, sessions, events);
-    match serve_new(rt, alloc, &settings, replica, links, listeners) {
+    match serve_new(rt, alloc, &settings, request, links, listeners) {
         Ok(reason) => Ok(reason),
         Err(fault) => Err(ServiceFault::Linked(fault)),
     }

@@ -1,6 +1,5 @@
 //! Opens the store of a site, and starts the site.
-ghost use Rattle.std.specs.Prelude.{◌≡◌, [], IfErr, IfOk, IsTrue};
-ghost use Rattle.stored_threads.specs.NewStores.{IsNewStore};
+ghost use Rattle.std.specs.Prelude.{◌≡◌, IfErr, IfOk, IsTrue};
 ghost use Rattle.site_service.specs.Refusals.{IsRefusal};
 
 use crate::{ServiceFault, StorePath};
@@ -61,7 +60,7 @@ pub(crate) fn open_store<D: StoreInFile>(
     }
 }
 
-// A start of the site of an open store: the site, and the store. If `keeps`, the store keeps rows. A new site's first start is logged.
+// A start of the site of an open store. If `keeps`, the store keeps rows. A new site's first start is logged.
 // Errors: `Store`, with the path and the cause; `Memory`.
 pub(crate) fn start_opened<D: StoreInFile, R: Wait>(
     rt: &R,
@@ -71,19 +70,17 @@ pub(crate) fn start_opened<D: StoreInFile, R: Wait>(
     events: &EventLog,
 ) -> Result<SiteFile<D>, ServiceFault>
     requires restored { D.is_restored opened.file }
-    ensures replica { IfOk result (λ it. it.replica ≡ D.restored_site opened.file) }
-    ensures new { IfOk result (λ it.
-        IsNewStore D.holds D.keeps D.begun it.replica it.store) }
-    ensures name { IfOk result (λ it. it.name ≡ D.name it.store) }
-    ensures starts { IfOk result (λ it. it.starts ≡ D.starts it.store) }
-    ensures kept { IfOk result (λ it. IsTrue keeps → D.keeps_rows it.store) }
+    ensures replica { IfOk result (λ it. it.resumed.replica ≡ D.restored_site opened.file) }
+    ensures name { IfOk result (λ it. it.name ≡ D.name it.resumed.store) }
+    ensures starts { IfOk result (λ it. it.starts ≡ D.starts it.resumed.store) }
+    ensures kept { IfOk result (λ it. IsTrue keeps → D.keeps_rows it.resumed.store) }
     ensures fault { IfErr result IsRefusal }
 {
     let OpenedStore { path, file } = opened;
     match D::resume_site(file, keeps) {
         Ok(site) => {
             if site.is_new {
-                log_new(rt, alloc, path.as_str(), site.replica.site(), events);
+                log_new(rt, alloc, path.as_str(), site.resumed.site(), events);
             }
             drop(path);
             Ok(site)
@@ -101,13 +98,12 @@ pub(crate) fn start_site<D: StoreInFile, R: Wait>(
     list: &QueueList,
     events: &EventLog,
 ) -> Result<SiteFile<D>, ServiceFault>
-    ensures site { IfOk result (λ it. it.replica.site ≡ site) }
-    ensures names { IfOk result (λ it. it.replica.names ≡ list.now) }
-    ensures new { IfOk result (λ it.
-        IsNewStore D.holds D.keeps D.begun it.replica it.store) }
-    ensures name { IfOk result (λ it. it.name ≡ D.name it.store) }
-    ensures starts { IfOk result (λ it. it.starts ≡ D.starts it.store) }
-    ensures kept { IfOk result (λ it. IsTrue place.entry.keeps → D.keeps_rows it.store) }
+    ensures site { IfOk result (λ it. it.resumed.replica.site ≡ site) }
+    ensures names { IfOk result (λ it. it.resumed.replica.names ≡ list.now) }
+    ensures name { IfOk result (λ it. it.name ≡ D.name it.resumed.store) }
+    ensures starts { IfOk result (λ it. it.starts ≡ D.starts it.resumed.store) }
+    ensures kept { IfOk result (λ it.
+        IsTrue place.entry.keeps → D.keeps_rows it.resumed.store) }
     ensures fault { IfErr result IsRefusal }
 {
     let Ok(path) = String::from_str(host.alloc(), place.path) else {

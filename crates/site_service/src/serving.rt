@@ -69,11 +69,11 @@ where
         Ok(stores) => stores,
         Err(fault) => return Err(fault),
     };
-    let starts = match start_sites(rt, host.alloc(), stores, folder.keeps, events) {
-        Ok(starts) => starts,
+    let sites = match start_sites(rt, host.alloc(), stores, folder.keeps, events) {
+        Ok(sites) => sites,
         Err(fault) => return Err(fault),
     };
-    match serve_stored_sites::<R, D, W>(rt, host.alloc(), settings, starts, sessions, log, events) {
+    match serve_stored_sites::<R, D, W>(rt, host.alloc(), settings, sites, sessions, log, events) {
         Ok(ends) => {
             drop(ends);
             Ok(())

@@ -1,10 +1,9 @@
 //! Opens the stores of all sites in a folder, and then starts the sites.
 ghost use Rattle.std.specs.List.{All};
-ghost use Rattle.std.specs.Prelude.{◌≡◌, ◌++◌, [], IfErr, IfOk, IsTrue, codes, decimal, map};
+ghost use Rattle.std.specs.Prelude.{◌≡◌, ◌++◌, IfErr, IfOk, IsTrue, codes, decimal, map};
 ghost use Rattle.std.specs.Prelude.{string_bytes, vec_len};
 ghost use Rattle.std.specs.VecDeque.{deque_len};
 ghost use Rattle.launcher.specs.Places.{AtEach};
-ghost use Rattle.stored_threads.specs.NewStores.{IsNewStore};
 ghost use Rattle.site_service.specs.Refusals.{IsRefusal};
 
 use crate::ServiceFault;
@@ -12,9 +11,9 @@ use crate::opening::{OpenedStore, open_store, start_opened};
 use dots::SiteId;
 use event_log::EventLog;
 use replica::QueueList;
-use server::StoredStart;
+use server::ResumedSite;
 use serving_clients::ServerSettings;
-use site_files::{SiteFile, StoreInFile, file_of_site};
+use site_files::{StoreInFile, file_of_site};
 use std::alloc::Global;
 use std::collections::VecDeque;
 use std::sync::Wait;
@@ -84,20 +83,18 @@ pub(crate) fn start_sites<D: StoreInFile, R: Wait>(
     stores: VecDeque<OpenedStore<D::Restored>>,
     keeps: bool,
     events: &EventLog,
-) -> Result<Vec<StoredStart<D>>, ServiceFault>
+) -> Result<Vec<ResumedSite<D>>, ServiceFault>
     requires restored { All (λ it. D.is_restored it.file) stores.items }
-    ensures number { IfOk result (λ starts. vec_len starts ≡ deque_len stores) }
-    ensures sites { IfOk result (λ starts. map (λ it. it.replica) starts.items
+    ensures number { IfOk result (λ sites. vec_len sites ≡ deque_len stores) }
+    ensures sites { IfOk result (λ sites. map (λ it. it.replica) sites.items
         ≡ map (λ it. D.restored_site it.file) stores.items) }
-    ensures new { IfOk result (λ starts. All (λ it.
-        IsNewStore D.holds D.keeps D.begun it.replica it.store) starts.items) }
-    ensures kept { IfOk result (λ starts.
-        All (λ it. IsTrue keeps → D.keeps_rows it.store) starts.items) }
+    ensures kept { IfOk result (λ sites.
+        All (λ it. IsTrue keeps → D.keeps_rows it.store) sites.items) }
     ensures fault { IfErr result IsRefusal }
 {
     let mut stores = stores;
-    let mut starts = match Vec::with_capacity(alloc, stores.len()) {
-        Ok(starts) => starts,
+    let mut sites = match Vec::with_capacity(alloc, stores.len()) {
+        Ok(sites) => sites,
         Err(_) => {
             drop(stores);
             return Err(ServiceFault::Memory);
@@ -105,17 +102,14 @@ pub(crate) fn start_sites<D: StoreInFile, R: Wait>(
     };
     while let Some(opened) = stores.pop_front() {
         match start_opened(rt, alloc, opened, keeps, events) {
-            Ok(site) => {
-                let SiteFile { store, replica, .. } = site;
-                starts.push_reserved(StoredStart { replica, store });
-            }
+            Ok(site) => sites.push_reserved(site.resumed),
             Err(fault) => {
                 drop(stores);
-                drop(starts);
+                drop(sites);
                 return Err(fault);
             }
         }
     }
     drop(stores);
-    Ok(starts)
+    Ok(sites)
 }

@@ -7,7 +7,7 @@ use site_journal::Journaled;
 /// What one site is launched with: its replica, its tasks, and what they share (this project's own).
 #[derive(Drop)]
 pub struct SiteTasks<S: Drop, T: Drop> {
-    /// The site before its first step: a new replica, or one that a store has kept.
+    /// The site before its first step. It has no store.
     pub replica: Replica,
     /// What the site's threads share.
     pub shared: S,

@@ -10,17 +10,14 @@ use std::alloc::Global;
 use std::sync::Wait;
 use std::thread::Threads;
 
-/// Runs sites at once, and returns when all their tasks have ended: each site's journal and what its tasks
-/// gave, in order. A site begins as its replica, and has the replica's number and queues. A new
-/// replica makes a new site; a replica that a store has kept goes on. The journal of a site has room
-/// for `limit` steps, 1 to 1,000,000. Each of its tasks, 1 to 256, runs in a thread of its own, by the
-/// pass of the task's place.
+/// Runs sites at once, and returns when all their tasks have ended: each site's journal and what its tasks gave, in order. A site begins as
+/// its replica, and has the replica's number and queues. The journal of a site has room for `limit` steps, 1 to 1,000,000. Each of its
+/// tasks, 1 to 256, runs in a thread of its own, by the pass of the task's place.
 ///
-/// No task begins before all threads of all sites run. If a thread can't start, or memory is lacking,
-/// no task begins, and all are dropped.
+/// No task begins before all threads of all sites run. If a thread can't start, or memory is lacking, no task begins, and all are dropped.
 ///
-/// Errors, in order: 1 `Memory`, if there is none to start sites; 2 `NoThread`, if the system could
-/// not start a thread; 3 `Memory`, if a site had none (this project's own). No contract says which.
+/// Errors, in order: 1 `Memory`, if there is none to start sites; 2 `NoThread`, if the system could not start a thread; 3 `Memory`, if a
+/// site had none (this project's own). No contract says which.
 pub fn run_sites<R: Threads + Wait + Sync, S: Send + Sync + Drop, T: Task<S, R> + Send + Drop>(
     rt: &R,
     alloc: Global,

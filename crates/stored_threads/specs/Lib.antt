@@ -1,2 +1,2 @@
-pub mod NewStores
+pub mod ResumedSites
 pub mod StoredEnds

@@ -27,6 +27,6 @@ pub record HasStoredEnd {D T O : Type 0} (Gives : T → ℕ → List (List ℕ) 
   pub lost : end.store ≡ None → end.fault ≡ Some Other
 
 -- the site at each place of `sites` has ended with the output at that place
-abbrev pub HaveStoredEnds : {D S T O : Type 0} → (T → ℕ → List (List ℕ) → PassState → O → PassState → Type 0) → (D → List Step → Type 0) → (D → List Step → Type 0) → (D → SiteState) → ℕ → List (StoredSiteTasks D S T) → List (StoredSiteOutput D O) → Type 0
-HaveStoredEnds {D} {S} {T} {O} Gives Holds Keeps begun limit sites ends = (place : ℕ) (site : StoredSiteTasks D S T) (end : StoredSiteOutput D O) → slice_get sites place ≡ Some site → slice_get ends place ≡ Some end
-    → HasStoredEnd Gives Holds Keeps begun site.replica limit site.tasks.items end
+abbrev pub HaveStoredEnds : {D S T Group Base O : Type 0} {ghosts : _} → (T → ℕ → List (List ℕ) → PassState → O → PassState → Type 0) → (D → List Step → Type 0) → (D → List Step → Type 0) → (D → SiteState) → ℕ → List (StoredSiteTasks D S T Group Base ghosts) → List (StoredSiteOutput D O) → Type 0
+HaveStoredEnds {D} {S} {T} {Group} {Base} {O} {ghosts} Gives Holds Keeps begun limit sites ends = (place : ℕ) (site : StoredSiteTasks D S T Group Base ghosts) (end : StoredSiteOutput D O) → slice_get sites place ≡ Some site → slice_get ends place ≡ Some end
+    → HasStoredEnd Gives Holds Keeps begun site.resumed.replica limit site.tasks.items end

@@ -6,7 +6,7 @@ ghost use Rattle.site_desk.specs.Passes.{AreAll, AreNewPasses};
 ghost use Rattle.site_threads.specs.Ledgers.{IsBlankFor, IsJournalFor, IsLedgerOf};
 ghost use Rattle.site_threads.specs.Limits.{IsStepLimit};
 ghost use Rattle.site_threads.specs.Tasks.{AreDone};
-ghost use Rattle.stored_threads.specs.NewStores.{IsNewStore};
+ghost use Rattle.stored_threads.specs.ResumedSites.{IsNewStore};
 ghost use Rattle.stored_threads.specs.StoredEnds.{HasStoredEnd, IsStoreOf};
 
 use crate::stored_task::StoredWorkplace;
@@ -227,7 +227,7 @@ fn begin(alloc: Global, replica: Replica, limit: u32) -> Result<(NewMark, Journa
     }
 }
 
-// Runs a site from its replica on, under a ledger that this call names. Errors: `Memory`, as of `begin`; those of
+// Runs a site over its store, under a ledger that this call names. Errors: `Memory`, as of `begin`; those of
 // `run_journal`. Then no task was done, and all are dropped.
 pub(crate) fn run_replica<
     R: Threads + Wait + Sync,
@@ -245,16 +245,15 @@ where
     D::Group: Send,
     D::Base: Send,
     requires limit { IsStepLimit limit }
-    requires store { IsNewStore D.holds D.keeps D.begun site.replica site.store }
-    ensures { IfOk result (λ end. HasStoredEnd T.gives D.holds D.keeps D.begun site.replica limit
+    ensures { IfOk result (λ end. HasStoredEnd T.gives D.holds D.keeps D.begun site.resumed.replica limit
         site.tasks.items end) }
 {
     let StoredSiteTasks {
-        replica,
-        store,
+        resumed,
         shared,
         tasks,
     } = site;
+    let (replica, store) = resumed.into_parts();
     match begin(alloc, replica, limit) {
         Ok((mark, journal)) => {
             let blank = Blank::new(tasks.len() as u64);
@@ -277,6 +276,6 @@ impl<D: StepStore + Send, S: Drop, T: TaskOutput + Drop> Launch for StoredSiteTa
 
     type Output = StoredSiteOutput<D, T::Output>;
 
-    ghost ends = { λ site limit end. HasStoredEnd T.gives D.holds D.keeps D.begun site.replica limit
-        site.tasks.items end };
+    ghost ends = { λ site limit end. HasStoredEnd T.gives D.holds D.keeps D.begun site.resumed.replica
+        limit site.tasks.items end };
 }

@@ -1,17 +1,15 @@
 ghost use Rattle.std.specs.Prelude.{◌≤◌, vec_len};
 ghost use Rattle.site_desk.specs.declared.desk.TheConstants.{MOST_PASSES};
 
-use replica::Replica;
+use crate::ResumedSite;
 use site_journal::Journaled;
-use stored_desk::CommitFault;
+use stored_desk::{CommitFault, StepStore};
 
 /// What one site with a store is launched with (this project's own).
 #[derive(Drop)]
-pub struct StoredSiteTasks<D: Drop, S: Drop, T: Drop> {
-    /// The site before its first step.
-    pub replica: Replica,
-    /// The store of the site's steps, which has none since this start.
-    pub store: D,
+pub struct StoredSiteTasks<D: StepStore, S: Drop, T: Drop> {
+    /// The site, which goes on over its store.
+    pub resumed: ResumedSite<D>,
     /// What the site's threads share.
     pub shared: S,
     /// The site's tasks, 1 to 256. Each is done by a thread of its own, with the pass of its place.

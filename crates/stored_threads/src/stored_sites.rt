@@ -1,8 +1,6 @@
 //! All sites with a store, each in a thread of its own.
-ghost use Rattle.std.specs.List.{All};
 ghost use Rattle.std.specs.Prelude.{◌≡◌, IfOk, vec_len};
 ghost use Rattle.site_threads.specs.Limits.{IsStepLimit};
-ghost use Rattle.stored_threads.specs.NewStores.{IsNewStore};
 ghost use Rattle.stored_threads.specs.StoredEnds.{HasStoredEnd, HaveStoredEnds};
 
 use crate::stored_site::run_replica;
@@ -13,10 +11,10 @@ use std::sync::Wait;
 use std::thread::Threads;
 use stored_desk::StepStore;
 
-/// Runs sites with stores at once, and returns when all their tasks have ended. A site begins as its replica, over a store of
-/// that site that has no step since this start. Its journal has room for `limit` steps, 1 to 1,000,000. Each of its tasks, 1 to 256, runs
-/// in a thread of its own, by the pass of the task's place. Once all have ended the site saves all its steps, unless a commit has failed,
-/// and gives its journal, what its tasks gave, and its store. While it is out of memory it tries again.
+/// Runs sites with stores at once, and returns when all their tasks have ended. The journal of each has room for `limit` steps, 1 to
+/// 1,000,000. Each of its tasks, 1 to 256, runs in a thread of its own, by the pass of the task's place. Once all have ended the site saves
+/// all its steps, unless a commit has failed, and gives its journal, what its tasks gave, and its store. While it is out of memory it tries
+/// again.
 ///
 /// No task begins before all threads of all sites run. If a thread can't start, or memory is lacking, no task begins, and all are dropped,
 /// stores too.
@@ -38,8 +36,6 @@ where
     D::Group: Send,
     D::Base: Send,
     requires limit { IsStepLimit limit }
-    requires stores { All (λ site. IsNewStore D.holds D.keeps D.begun site.replica site.store)
-        all.items }
     ensures number { IfOk result (λ ends. vec_len ends ≡ vec_len all) }
     ensures ends { IfOk result (λ ends.
         HaveStoredEnds T.gives D.holds D.keeps D.begun limit all.items ends.items) }
@@ -48,9 +44,8 @@ where
     let lent = &start;
     let run = |site: StoredSiteTasks<D, S, T>| -> Result<StoredSiteOutput<D, T::Output>, SiteFault>
         requires limit { IsStepLimit limit }
-        requires store { IsNewStore D.holds D.keeps D.begun site.replica site.store }
-        ensures { IfOk result (λ end. HasStoredEnd T.gives D.holds D.keeps D.begun site.replica limit
-            site.tasks.items end) }
+        ensures { IfOk result (λ end. HasStoredEnd T.gives D.holds D.keeps D.begun site.resumed.replica
+            limit site.tasks.items end) }
     { run_replica(rt, alloc, lent, limit, site) };
     launch_sites(rt, alloc, lent, limit, &run, all)
 }

@@ -1,7 +1,5 @@
 //! Sites with stores that are served: what their stores have, and how they end if a store fails.
-ghost use Rattle.std.specs.List.{All};
 ghost use Rattle.std.specs.Prelude.{◌≡◌, vec_len};
-ghost use Rattle.replica.specs.Site.{IsSameSite};
 
 use crate::clients::{ADD, GREETING, LOGIN, add_at_one_of_two, assert_ends, connected, send, talk};
 use crate::replies::REPORT;
@@ -11,7 +9,7 @@ use crate::sites_served::assert_shows;
 use ami_text::MemorySink;
 use dots::Memory;
 use replica::Replica;
-use server::{StoredSiteOutput, StoredStart, serve_stored_sites};
+use server::{ResumedSite, StoredSiteOutput, serve_stored_sites};
 use site_journal::{Step, StepDeed};
 use status_report::Ask;
 use std::alloc::Global;
@@ -90,43 +88,42 @@ impl StepStore for CountingStore {
 }
 
 // A site of the queue `sales` that knows nothing, over a store without a step.
-fn start(
+fn resumed_site(
     rt: &impl Abort,
     alloc: Global,
     number: u16,
     refuses_commands: bool,
-) -> StoredStart<CountingStore>
-    ensures { IsSameSite result.store.base result.replica }
-{
+) -> ResumedSite<CountingStore> {
     let base = replica(rt, alloc, number, &["sales"]);
     let replica = match base.copy() {
         Ok(replica) => replica,
         Err(_) => rt.panic("memory"),
     };
-    StoredStart {
-        replica,
-        store: CountingStore {
-            base,
-            steps: 0,
-            refuses_commands,
-        },
-    }
+    let store = CountingStore {
+        base,
+        steps: 0,
+        refuses_commands,
+    };
+    ResumedSite::new(replica, store)
 }
 
 // Two such sites. The first may be over a store that refuses commands.
-fn starts(rt: &impl Abort, alloc: Global, refuses_commands: bool) -> Vec<StoredStart<CountingStore>>
-    ensures number { vec_len result ≡ 2 }
-    ensures begun { All (λ start. IsSameSite start.store.base start.replica) result.items }
+fn resumed_sites(
+    rt: &impl Abort,
+    alloc: Global,
+    refuses_commands: bool,
+) -> Vec<ResumedSite<CountingStore>>
+    ensures { vec_len result ≡ 2 }
 {
-    let mut starts = match Vec::with_capacity(alloc, 2) {
-        Ok(starts) => starts,
+    let mut sites = match Vec::with_capacity(alloc, 2) {
+        Ok(sites) => sites,
         Err(_) => rt.panic("memory"),
     };
-    let first = start(rt, alloc, 0, refuses_commands);
-    starts.push_reserved(first);
-    let second = start(rt, alloc, 1, false);
-    starts.push_reserved(second);
-    starts
+    let first = resumed_site(rt, alloc, 0, refuses_commands);
+    sites.push_reserved(first);
+    let second = resumed_site(rt, alloc, 1, false);
+    sites.push_reserved(second);
+    sites
 }
 
 // What two such sites end with, each of which takes one connection.
@@ -141,10 +138,10 @@ where
 {
     let settings = settings(rt, 2, HERE, port, Limit::Usual);
     assert!(*rt; settings.sites == 2);
-    let starts = starts(rt, alloc, refuses_commands);
+    let sites = resumed_sites(rt, alloc, refuses_commands);
     let mut log = MemorySink::failing(alloc, 700, 10);
     let events = events(rt, alloc);
-    let ended = serve_stored_sites(rt, alloc, &settings, starts, Some(1), &mut log, &events);
+    let ended = serve_stored_sites(rt, alloc, &settings, sites, Some(1), &mut log, &events);
     drop(events);
     drop(log);
     drop(settings);

@@ -12,7 +12,8 @@ use std::sync::Wait;
 use std::thread::Threads;
 use stored_desk::{CommitFault, StepStore, StoredDesk, StoredLedger};
 use stored_threads::{
-    StoredSiteOutput, StoredSiteTasks, StoredTask, TaskEnd, TaskOutput, run_stored_sites,
+    ResumedSite, StoredSiteOutput, StoredSiteTasks, StoredTask, TaskEnd, TaskOutput,
+    run_stored_sites,
 };
 
 // A task that asks its site once. Its output is whether the site's answer is durable.
@@ -77,10 +78,11 @@ fn launched<R: Abort + Threads + Wait + Sync>(
     tasks.push(AskOnce { asked: second }).expect(rt, "memory");
     let replica = new_site_0(rt, alloc);
     let store = MemoryStore::new(alloc, copied(rt, &replica), commits, true);
+    let resumed = ResumedSite::new(replica, store);
+    assert!(*rt; resumed.site().number() == 0 && resumed.list().len() == 1);
     let mut sites = Vec::new(alloc);
     let site = StoredSiteTasks {
-        replica,
-        store,
+        resumed,
         shared: (),
         tasks,
     };

@@ -2,7 +2,7 @@
 ghost use Rattle.std.specs.Prelude.{◌≡◌, vec_len};
 
 use crate::serving::events;
-use crate::shared::{replica, text};
+use crate::shared::{list, site, text};
 use link_keys::Key;
 use linked_site::{EndReason, LinkSettings, SiteEnd, serve_linked_site};
 use serving_clients::{ClientSettings, SessionSettings};
@@ -94,17 +94,20 @@ where
         connections: test.sessions,
         events: &events,
     };
+    let list = list(rt, alloc, &["sales"]);
     let served = serve_linked_site(
         rt,
         alloc,
         &settings,
         links(rt, alloc, test, peer),
-        replica(rt, alloc, test.number, &["sales"]),
+        site(rt, test.number),
+        &list,
         clients,
         heard,
     );
     drop(session);
     drop(events);
+    drop(list);
     let SiteEnd { reason, journal } = served.ok().expect(rt, "an end");
     drop(journal);
     reason

@@ -13,7 +13,7 @@ returns-in-Ok-run_stored_sites-clause-journal g c =
     let site = first_pushed _ _ _ none c.push_reserved.ensures.items in
     let ended = c.in-Ok-run_stored_sites.ensures.ends 0 _ end.0 site end.1 in
     let is = ended.ended in
-    subst (IsLinkedJournal c.args.site.replica) (sym (c.end_of.ensures.journal end.0 end.1)) (record { of_site = is.own_site; limit = is.limit_is; begun = is.begun })
+    subst (IsLinkedJournal c.args.site.resumed.replica) (sym (c.end_of.ensures.journal end.0 end.1)) (record { of_site = is.own_site; limit = is.limit_is; begun = is.begun })
 
 -- and its store is its own
 pub returns-in-Ok-run_stored_sites-clause-stored : goal.returns-in-Ok-run_stored_sites-clause-stored
@@ -23,8 +23,8 @@ returns-in-Ok-run_stored_sites-clause-stored g c =
     let end = first_of_one c.in-Ok-run_stored_sites.ends.items one in
     let site = first_pushed _ _ _ none c.push_reserved.ensures.items in
     let ended = c.in-Ok-run_stored_sites.ensures.ends 0 _ end.0 site end.1 in
-    subst (λ fault. IfSome c.end_of.result.store (λ s. IsStoreOf g.D.StepStore.holds g.D.StepStore.keeps g.D.StepStore.begun c.args.site.replica fault s)) (sym (c.end_of.ensures.fault end.0 end.1))
-    (subst (λ store. IfSome store (λ s. IsStoreOf g.D.StepStore.holds g.D.StepStore.keeps g.D.StepStore.begun c.args.site.replica end.0.fault s)) (sym (c.end_of.ensures.store end.0 end.1)) ended.stored)
+    subst (λ fault. IfSome c.end_of.result.store (λ s. IsStoreOf g.D.StepStore.holds g.D.StepStore.keeps g.D.StepStore.begun c.args.site.resumed.replica fault s)) (sym (c.end_of.ensures.fault end.0 end.1))
+    (subst (λ store. IfSome store (λ s. IsStoreOf g.D.StepStore.holds g.D.StepStore.keeps g.D.StepStore.begun c.args.site.resumed.replica end.0.fault s)) (sym (c.end_of.ensures.store end.0 end.1)) ended.stored)
 
 -- or there is a fault
 pub returns-in-Ok-run_stored_sites-clause-lost : goal.returns-in-Ok-run_stored_sites-clause-lost

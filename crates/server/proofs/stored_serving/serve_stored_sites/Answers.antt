@@ -1,17 +1,13 @@
 use Rattle.std.proofs.Common.{◌≡◌, arith, length}
 use Rattle.server.proofs.ListeningLemmas.{all_written}
-use Rattle.server.proofs.ServedStores.{new_by_start, served_ends}
+use Rattle.server.proofs.ServedStores.{served_ends}
 use Rattle.server.proofs.stored_serving.serve_stored_sites.Goals as goal
 
--- the store of each site is that of its start
-pub run_stored_sites-requires-clause-stores : goal.run_stored_sites-requires-clause-stores
-run_stored_sites-requires-clause-stores g c = λ _ _ k none low. new_by_start g.D.StepStore.holds g.D.StepStore.keeps g.D.StepStore.begun c.args.starts.items k _ (c.in_ok-sites.ensures.each k none low) c.requires.stores
-
--- each site has ended as its start says
+-- each site has ended as the one at its place
 pub returns-clause-each : goal.returns-clause-each
 returns-clause-each g c =
-    let long : length c.args.starts.items ≡ length c.in_ok-sites.sites.items = omega (arith, c.in_ok-sites.ensures.number, c.args.starts.ok.0, c.in_ok-sites.sites.ok.0) in
-    served_ends _ g.D.StepStore.holds g.D.StepStore.keeps g.D.StepStore.begun c.args.starts.items c.in_ok-sites.sites.items c.in_ok-ends.ends.items long c.in_ok-sites.ensures.each c.in_ok-ends.ensures.ends
+    let long : length c.args.resumed.items ≡ length c.in_ok-sites.sites.items = omega (arith, c.in_ok-sites.ensures.number, c.args.resumed.ok.0, c.in_ok-sites.sites.ok.0) in
+    served_ends _ g.D.StepStore.holds g.D.StepStore.keeps g.D.StepStore.begun c.args.resumed.items c.in_ok-sites.sites.items c.in_ok-ends.ends.items long c.in_ok-sites.ensures.each c.in_ok-ends.ensures.ends
 
 -- once all sites listen the log has all lines
 pub returns-in_err-sites-clause-begun : goal.returns-in_err-sites-clause-begun
