@@ -977,7 +977,7 @@ def read_slowly(it):
     it.send(b"Action: QueueStatus\r\nActionID: " + 1_000 * b"a" + b"\r\n\r\nAction: Logoff\r\n\r\n")
     ends, read = time.monotonic() + SLOT_SECONDS + MORE_SECONDS, []
     while time.monotonic() < ends:
-        read.append(it.socket.recv(16_384))
+        read.append(it.socket.recv(32_768))
         time.sleep(0.5)
     slowly = sum(map(len, read))
     written = b"".join(read) + it.rest()

@@ -50,8 +50,7 @@ fn end_of<D: StepStore>(ends: Vec<StoredSiteOutput<D, Option<EndReason>>>) -> St
     }
 }
 
-// Runs a site over its store until it ends. Errors: `NoThread`, `Memory`; the store is dropped, and
-// no task has begun.
+// Runs a site over its store until it ends. Errors: `NoThread`, `Memory`; the store is dropped, and no task has begun.
 fn run_site<
     R: Net<Listener = TcpListener, Stream = TcpStream>
         + Threads

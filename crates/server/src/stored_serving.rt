@@ -27,9 +27,8 @@ use std::time::Clock;
 use stored_desk::StepStore;
 use stored_threads::{ResumedSite, StoredSiteOutput, StoredSiteTasks, run_stored_sites};
 
-// What a site over its store is launched with, for which `ready` is ready. Its tasks are those of a site without a store, and
-// one that saves. It waits for a first frame of each peer. It fails when out of memory, or if `has_failed` has too many handles, and drops
-// all.
+// What a site over its store is launched with, for which `ready` is ready. Its tasks are those of a site without a store, and one that
+// saves. It waits for a first frame of each peer. It fails when out of memory, or if `has_failed` has too many handles, and drops all.
 fn stored_site_of<D: StepStore>(
     alloc: Global,
     resumed: ResumedSite<D>,
@@ -69,8 +68,8 @@ fn stored_site_of<D: StepStore>(
     })
 }
 
-// What each site is launched with, which has the site and what is ready at its place: there are as many of both. All sites share whether one
-// has failed; none has yet. It fails only when out of memory, and drops all.
+// What the sites are launched with, each with what is ready at its place: there are as many of both. All sites share whether one has
+// failed; none has yet. It fails only when out of memory, and drops all.
 fn stored_sites_of<D: StepStore>(
     alloc: Global,
     resumed: Vec<ResumedSite<D>>,
@@ -118,8 +117,8 @@ fn stored_sites_of<D: StepStore>(
     Ok(sites)
 }
 
-/// Serves sites with stores at once, as many as `settings` says: those of `resumed`, in the order of their numbers 0, 1 and so on.
-/// It serves clients as `serve_sites` does, but no reply and no frame leaves a site before its step is in the site's store. When it begins,
+/// Serves sites with stores at once, as many as `settings` says: those of `resumed`, in the order of their numbers 0, 1 and so on. It
+/// serves clients as `serve_sites` does, but no reply and no frame leaves a site before its step is in the site's store. When it begins,
 /// each site sends all that it knows to the others, since a frame of before may not have been sent. A site answers clients once it has
 /// taken or refused a frame of each other one, or after 4 seconds.
 ///

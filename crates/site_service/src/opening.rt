@@ -60,8 +60,8 @@ pub(crate) fn open_store<D: StoreInFile>(
     }
 }
 
-// A start of the site of an open store. If `keeps`, the store keeps rows. A new site's first start is logged.
-// Errors: `Store`, with the path and the cause; `Memory`.
+// A start of the site of an open store. If `keeps`, the store keeps rows. A new site's first start is logged. Errors: `Store`, with the
+// path and the cause; `Memory`.
 pub(crate) fn start_opened<D: StoreInFile, R: Wait>(
     rt: &R,
     alloc: Global,
