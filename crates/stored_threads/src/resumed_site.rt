@@ -58,6 +58,7 @@ impl<D: StepStore> ResumedSite<D> {
     // The site and its store.
     pub(crate) fn into_parts(self) -> (Replica, D)
         ensures replica { result.0 ≡ self.replica }
+        ensures store { result.1 ≡ self.store }
         ensures new { IsNewStore D.holds D.keeps D.begun result.0 result.1 }
     {
         let ResumedSite { replica, store } = self;

@@ -245,8 +245,8 @@ where
     D::Group: Send,
     D::Base: Send,
     requires limit { IsStepLimit limit }
-    ensures { IfOk result (λ end. HasStoredEnd T.gives D.holds D.keeps D.begun site.resumed.replica limit
-        site.tasks.items end) }
+    ensures { IfOk result (λ end. HasStoredEnd T.gives D.holds D.keeps D.begun
+        site.resumed.replica limit site.tasks.items end) }
 {
     let StoredSiteTasks {
         resumed,
@@ -276,6 +276,6 @@ impl<D: StepStore + Send, S: Drop, T: TaskOutput + Drop> Launch for StoredSiteTa
 
     type Output = StoredSiteOutput<D, T::Output>;
 
-    ghost ends = { λ site limit end. HasStoredEnd T.gives D.holds D.keeps D.begun site.resumed.replica
-        limit site.tasks.items end };
+    ghost ends = { λ site limit end. HasStoredEnd T.gives D.holds D.keeps D.begun
+        site.resumed.replica limit site.tasks.items end };
 }

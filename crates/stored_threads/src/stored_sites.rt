@@ -44,8 +44,8 @@ where
     let lent = &start;
     let run = |site: StoredSiteTasks<D, S, T>| -> Result<StoredSiteOutput<D, T::Output>, SiteFault>
         requires limit { IsStepLimit limit }
-        ensures { IfOk result (λ end. HasStoredEnd T.gives D.holds D.keeps D.begun site.resumed.replica
-            limit site.tasks.items end) }
+        ensures { IfOk result (λ end. HasStoredEnd T.gives D.holds D.keeps D.begun
+            site.resumed.replica limit site.tasks.items end) }
     { run_replica(rt, alloc, lent, limit, site) };
     launch_sites(rt, alloc, lent, limit, &run, all)
 }
