@@ -378,20 +378,24 @@ def with_body(rows, place, body):
 
 
 def short_run(folder, prefix, adds=4):
-    """Stores of two sites of a run of about 50 steps. The last step of each is a frame that the other has taken."""
+    """Stores of two sites of a run of some 110 steps. Each change is shown at both sites before the next is asked for, so a frame says what it has
+    changed. The last step of each is a frame that the other has taken."""
     with keeping(folder, 2) as server:
-        for turn in range(adds):
-            for site in range(2):
-                interface = f"SIP/{prefix}-{site}-{turn}"
-                with server.logged_in(site) as client:
-                    client.succeed("QueueAdd", Queue=QUEUES[turn % 2], Interface=interface, Penalty=turn, MemberName="Ann")
-                    client.succeed("QueuePause", Interface=interface, Paused="yes", Reason="lunch")
-                    client.succeed("QueuePenalty", Interface=interface, Penalty=turn + 10)
-                    client.succeed("QueueMemberRingInUse", Interface=interface, RingInUse="no")
-                    if turn % 2:
-                        client.succeed("QueueRemove", Queue=QUEUES[1], Interface=interface)
-                until_same([(server, 0), (server, 1)])
-        report = until_same([(server, 0), (server, 1)])
+        both = [(server, 0), (server, 1)]
+        for turn, site in itertools.product(range(adds), range(2)):
+            name = {"Interface": f"SIP/{prefix}-{site}-{turn}"}
+            asks = [
+                ("QueueAdd", {"Queue": QUEUES[turn % 2], "Penalty": turn, "MemberName": "Ann"}),
+                ("QueuePause", {"Paused": "yes", "Reason": "lunch"}),
+                ("QueuePenalty", {"Penalty": turn + 10}),
+                ("QueueMemberRingInUse", {"RingInUse": "no"}),
+            ]
+            if turn % 2:
+                asks.append(("QueueRemove", {"Queue": QUEUES[1]}))
+            with server.logged_in(site) as client:
+                for action, fields in asks:
+                    client.succeed(action, **fields, **name)
+                    report = until_same(both)
         server.stop()
     return report
 
