@@ -10,9 +10,9 @@ mod site_file;
 mod site_file_fault;
 mod store_in_file;
 
-pub use opening::{file_of_site, open_site_file, restore_site_file, resume_site_file};
+pub use opening::{file_of_site, open_site_file, restore_site_file};
 pub use site_database::SiteDatabase;
-pub use site_file::{OpenedFile, RestoredFile, SiteFile};
+pub use site_file::{RestoredFile, SiteFile};
 pub use site_file_fault::SiteFileFault;
 pub use site_store::OpenFault;
 pub use store_in_file::StoreInFile;

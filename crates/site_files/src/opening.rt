@@ -1,4 +1,4 @@
-//! Opens the file of a site's store, and begins a start of the site.
+//! Opens the file of a site's store, or makes it, and restores the site.
 ghost use Rattle.std.specs.Prelude.{◌≡◌, ◌↔◌, ◌≤◌, ◌++◌, [], IfOk, IsTrue, codes};
 ghost use Rattle.std.specs.Prelude.{decimal, string_bytes};
 ghost use Rattle.sqlite.specs.Files.{file_state};
@@ -9,11 +9,11 @@ ghost use Rattle.replica.specs.Deeds.{IsNew};
 ghost use Rattle.replica.specs.Site.{IsSameSite, SiteState};
 ghost use Rattle.site_journal.specs.declared.journaled.TheConstants.{MOST_STEPS};
 ghost use Rattle.stored_steps.specs.Bases.{IsRowOfBase};
-ghost use Rattle.step_database.specs.Restored.{AddsStart, IsRestored};
+ghost use Rattle.step_database.specs.Restored.{IsRestored};
 ghost use Rattle.stored_threads.specs.ResumedSites.{IsNewStore};
 ghost use Rattle.site_files.specs.Opened.{HoldsRowsOf, IsFirstStart};
 
-use crate::{OpenedFile, RestoredFile, SiteFile, SiteFileFault};
+use crate::{RestoredFile, SiteFile, SiteFileFault};
 use dots::{Memory, SiteId};
 use replica::{QueueList, Replica};
 use site_journal::MOST_STEPS;
@@ -24,7 +24,7 @@ use std::fs::{self, File};
 use std::io::ErrorKind;
 use std::path::Path;
 use std::random::RandomSource;
-use step_database::{RestoredDatabase, StepDatabase};
+use step_database::RestoredDatabase;
 use stored_desk::StepStore;
 use stored_steps::{NAME_BYTES, StoredRow, row_of_base};
 use stored_threads::ResumedSite;
@@ -111,27 +111,6 @@ pub(crate) fn site_file<D: StepStore>(
         starts,
         is_new,
     }
-}
-
-/// A start of the restored site of a file: the site, and its store. The row of the start is added, in a commit of its own. If `keeps`, the
-/// store keeps from then on the rows in whose place a base is put, by another commit; a store that has begun to keep rows goes on.
-///
-/// Errors are those of `resume` of `StepDatabase`. After each the row of the start may stand; the other rows stay.
-pub fn resume_site_file<S: Start>(
-    restored: RestoredFile<S>,
-    keeps: bool,
-) -> Result<OpenedFile<S>, OpenFault>
-    requires restored { IsRestored (file_state restored.conn) restored }
-    ensures replica { IfOk result (λ it. it.resumed.replica ≡ restored.replica) }
-    ensures name { IfOk result (λ it. it.name ≡ it.resumed.store.origin.name) }
-    ensures starts { IfOk result (λ it. it.starts ≡ it.resumed.store.origin.starts) }
-    ensures adds { IfOk result (λ it.
-        AddsStart keeps (file_state restored.conn) (file_state it.resumed.store.conn)) }
-    ensures is_new { IfOk result (λ it. IsTrue it.is_new ↔ IsFirstStart it) }
-{
-    let (store, replica) = StepDatabase::resume(restored, keeps)?;
-    let (name, starts) = (*store.name(), store.starts());
-    Ok(site_file(replica, store, name, starts))
 }
 
 // The row of the base of a new site with these queues, over a store that has this name and was never started. Fails only when out of

@@ -69,7 +69,7 @@ impl StoreInFile for SiteDatabase {
     ghost use Rattle.sqlite.specs.Files.{file_state};
     ghost use Rattle.sqlite.specs.State.{HasCleanDisk};
     ghost use Rattle.site_store.specs.Steps.{kept_schema};
-    ghost use Rattle.step_database.specs.Restored.{IsRestored};
+    ghost use Rattle.step_database.specs.Restored.{AddsStart, IsRestored};
 
     type Restored = RestoredFile<Unknown>;
 
@@ -84,6 +84,9 @@ impl StoreInFile for SiteDatabase {
     ghost keeps_rows = { λ store. HasCleanDisk (file_state store.rows.conn)
         → (file_state store.rows.conn).now.schema ≡ kept_schema };
 
+    ghost adds_start = { λ keeps restored store.
+        AddsStart keeps (file_state restored.conn) (file_state store.rows.conn) };
+
     // As `open_site_file`. Contracts know nothing of what the file held (`Unknown`).
     fn open_site(
         rt: &HostRuntime,
@@ -95,7 +98,7 @@ impl StoreInFile for SiteDatabase {
         open_site_file(rt, path, Unknown, site, list, limit)
     }
 
-    // As `resume_site_file`.
+    // As `resume` of `StepDatabase`.
     fn resume_site(
         restored: RestoredFile<Unknown>,
         keeps: bool,

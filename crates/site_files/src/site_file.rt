@@ -1,5 +1,5 @@
 use sqlite::{FileFrom, FileStore};
-use step_database::{RestoredDatabase, StepDatabase};
+use step_database::RestoredDatabase;
 use stored_desk::StepStore;
 use stored_steps::NAME_BYTES;
 use stored_threads::ResumedSite;
@@ -19,6 +19,3 @@ pub struct SiteFile<D: StepStore> {
 
 /// A file whose site is restored, before a start of it.
 pub type RestoredFile<S> = RestoredDatabase<FileStore<FileFrom<S>>>;
-
-/// A site that goes on over a file.
-pub type OpenedFile<S> = SiteFile<StepDatabase<FileStore<FileFrom<S>>>>;

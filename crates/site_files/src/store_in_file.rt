@@ -10,7 +10,7 @@ use stored_desk::StepStore;
 
 /// A store of a site that lies in a file (this project's own).
 pub trait StoreInFile: StepStore {
-    ghost use Rattle.std.specs.Prelude.{ℕ, List};
+    ghost use Rattle.std.specs.Prelude.{ℕ, Bool, List};
     ghost use Rattle.replica.specs.Site.{SiteState};
 
     /// A file that is open, and whose site is restored, before a start of it.
@@ -31,6 +31,9 @@ pub trait StoreInFile: StepStore {
     /// The store keeps the rows in whose place a base is put.
     ghost keeps_rows: { Self → Type 0 };
 
+    /// A start of a restored file has led to a store: its row was added, and the store keeps rows if it is to, else as before.
+    ghost adds_start: { Bool → Self.Restored → Self → Type 0 };
+
     /// The file at a path, with its site of this number and these queues, as `open_site_file` has it: a new site where neither the file nor
     /// its log is there. While the store's steps are done again at most `limit` of them are in memory, 1 to 1,000,000. Errors are those of
     /// `open_site_file`.
@@ -47,13 +50,15 @@ pub trait StoreInFile: StepStore {
         ensures names { IfOk result (λ it. (Self.restored_site it).names ≡ list.now) }
         ensures restored { IfOk result (λ it. Self.is_restored it) };
 
-    /// A start of the restored site of a file, as `resume_site_file` has it: the row of the start is added. If `keeps`, the store keeps
-    /// from then on the rows in whose place a base is put. Errors are those of `resume_site_file`.
+    /// A start of the restored site of a file: the site and its store, as one value. The row of the start is added, in a commit of its own.
+    /// If `keeps`, the store keeps from then on the rows in whose place a base is put, by another commit; a store that has begun to keep
+    /// rows goes on. Errors are those of `resume` of `StepDatabase`. After each the row of the start may stand; the other rows stay.
     fn resume_site(restored: Self::Restored, keeps: bool) -> Result<SiteFile<Self>, OpenFault>
         requires restored { Self.is_restored restored }
         ensures replica { IfOk result (λ it. it.resumed.replica ≡ Self.restored_site restored) }
         ensures name { IfOk result (λ it. it.name ≡ Self.name it.resumed.store) }
         ensures starts { IfOk result (λ it. it.starts ≡ Self.starts it.resumed.store) }
+        ensures adds { IfOk result (λ it. Self.adds_start keeps restored it.resumed.store) }
         ensures kept { IfOk result (λ it. IsTrue keeps → Self.keeps_rows it.resumed.store) }
         ensures is_new { IfOk result (λ it. IsTrue it.is_new ↔ IsFirstStart it) }
         ensures new { IfOk result (λ it. IsNewStore Self.holds Self.keeps Self.begun

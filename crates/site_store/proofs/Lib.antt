@@ -1,5 +1,6 @@
 pub mod RowLemmas
 pub mod StepLemmas
+pub mod OrderLemmas
 pub mod KeptLemmas
 pub mod MoveLemmas
 pub mod WriteLemmas

@@ -5,7 +5,8 @@ use Rattle.std.proofs.lemmas.List.Sorted.{All-permutation}
 use Rattle.sqlite.specs.declared.types.Value.TheVariants.{Null}
 use Rattle.sqlite.specs.Order.{Row}
 use Rattle.sqlite.specs.Term.{Term, lit, col}
-use Rattle.sqlite.specs.Query.{Query}
+use Rattle.sqlite.specs.Program.{overlay}
+use Rattle.sqlite.specs.Query.{IsAnswer, Query}
 use Rattle.sqlite.specs.Collation.{Collation}
 use Rattle.sqlite.specs.Collation.TheVariants.{Binary}
 use Rattle.sqlite.specs.Source.TheVariants.{Query as Selected}
@@ -219,10 +220,11 @@ kept_plain : IsPlain (understood kept_schema kept_text)
 unfolding understood everything
 kept_plain = (refl, refl)
 
+pub kept_answer : (old new : State) (rows : List Row) → old.now.schema ≡ kept_schema → Shown kept_text [] old new rows → IsAnswer (shown_query 1) (overlay old.now.trees []) [] rows
+kept_answer old new rows has h = (reads_as kept_text [] old new kept_schema has _ kept_is.0 kept_plain kept_is.1 rows h).answer Null
+
 pub finds_kept : (old new : State) (rows : List Row) → old.now.schema ≡ kept_schema → Shown kept_text [] old new rows → IsPermutation (map shown (old.now.trees 1)) rows
-finds_kept old new rows has h =
-    let read = reads_as kept_text [] old new kept_schema has _ kept_is.0 kept_plain kept_is.1 rows h in
-    whole_answer 1 _ _ _ old.now.trees [] rows refl (read.answer Null)
+finds_kept old new rows has h = whole_answer 1 _ _ _ old.now.trees [] rows refl (kept_answer old new rows has h)
 
 pub finds_kept_same : (old new : State) (rows : List Row) → old.now.schema ≡ kept_schema → Shown kept_text [] old new rows → IsUnchanged old new
 finds_kept_same old new rows has h = same_shown kept_text old new rows (subst (λ s. IsPlain (understood s kept_text)) (sym has) kept_plain) h

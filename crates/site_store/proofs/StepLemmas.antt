@@ -291,12 +291,14 @@ commits_add old at s words db has h =
     (writes.2, does_add old.step_limit (mode_of old) at s words old.now (statement_of insert_text (understood old.now.schema insert_text)) writes.1 writes.2 has writes.3, writes.5)
 
 -- the rows of an answer are those of the table, in some order
-pub finds : (old new : State) (rows : List Row) → IsStoreSchema old.now.schema → Shown select_text [] old new rows → IsPermutation (map shown (old.now.trees 0)) rows
-finds old new rows has h =
+pub shown_answer : (old new : State) (rows : List Row) → IsStoreSchema old.now.schema → Shown select_text [] old new rows → IsAnswer (shown_query 0) (overlay old.now.trees []) [] rows
+shown_answer old new rows has h =
     let schema = old.now.schema in
     let is = select_is schema has in
-    let read = reads_as select_text [] old new schema refl _ is.0 (select_plain schema has) is.1 rows h in
-    whole_answer 0 _ _ _ old.now.trees [] rows refl (read.answer Null)
+    (reads_as select_text [] old new schema refl _ is.0 (select_plain schema has) is.1 rows h).answer Null
+
+pub finds : (old new : State) (rows : List Row) → IsStoreSchema old.now.schema → Shown select_text [] old new rows → IsPermutation (map shown (old.now.trees 0)) rows
+finds old new rows has h = whole_answer 0 _ _ _ old.now.trees [] rows refl (shown_answer old new rows has h)
 
 -- a query of a plain text changes nothing
 pub same_shown : (text : List ℕ) (old new : State) (rows : List Row) → IsPlain (understood old.now.schema text) → Shown text [] old new rows → IsUnchanged old new

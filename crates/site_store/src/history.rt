@@ -1,25 +1,30 @@
 //! All rows of a store, with those in whose place a base was put.
-ghost use Rattle.std.specs.Prelude.{◌≡◌, ◌≢◌, ◌++◌, [], ℕ, List, IfOk, IfSome, map};
+ghost use Rattle.std.specs.Prelude.{◌≡◌, ◌≢◌, ◌<◌, ◌^◌, ◌+◌, ◌++◌, [], ℕ, List};
+ghost use Rattle.std.specs.Prelude.{IfOk, IfSome, IsSome, length, map};
 ghost use Rattle.std.specs.List.Sorted.{IsPermutation};
 ghost use Rattle.sqlite.specs.Held.{state};
 ghost use Rattle.sqlite.specs.State.{HasCleanDisk};
 ghost use Rattle.stored_steps.specs.Stored.{Stored};
 ghost use Rattle.site_store.specs.Kept.{AreOfBoth, HoldsAll, IsHistory};
 ghost use Rattle.site_store.specs.Steps.{IsStoreSchema, Lists, OnlyReads};
-ghost use Rattle.site_store.specs.Steps.{kept_schema, shown, step_schema};
+ghost use Rattle.site_store.specs.Steps.{kept_schema, rows_from, shown, step_schema};
 
 use crate::reading::{Listed, listed_from, query_rows, read_all};
 use crate::shape::keeps_rows;
 use sqlite::{Alter, Connection, Error, Row};
 use std::alloc::Global;
 
-// All rows of the table of kept rows, as an answer shows them, in the order of their positions; no contract says that order. What the
-// database holds stays. Fails with the database's error.
+// All rows of the table of kept rows, as an answer shows them, in the order of their positions; contracts say so of rows without a gap.
+// What the database holds stays. Fails with the database's error.
 fn query_kept<S: Alter>(conn: &mut Connection<S>) -> Result<Vec<Row>, Error>
     ensures listed { HasCleanDisk (state S.Store conn.new)
         → (state S.Store conn.old).now.schema ≡ kept_schema
         → IfOk result (λ rows.
         IsPermutation (map shown ((state S.Store conn.old).now.trees 1)) rows.items) }
+    ensures in_order { HasCleanDisk (state S.Store conn.new)
+        → (state S.Store conn.old).now.schema ≡ kept_schema → (first : ℕ) (kept : List Stored)
+        → Lists ((state S.Store conn.old).now.trees 1) first kept
+        → IfOk result (λ rows. rows.items ≡ rows_from first kept) }
     ensures reads { OnlyReads (λ schema. schema ≡ kept_schema)
         (state S.Store conn.old) (state S.Store conn.new) result }
 {
@@ -36,6 +41,9 @@ fn query_both<S: Alter>(conn: &mut Connection<S>) -> Result<Vec<Row>, Error>
     ensures listed { HasCleanDisk (state S.Store conn.new)
         → (state S.Store conn.old).now.schema ≡ kept_schema
         → IfOk result (λ rows. AreOfBoth (state S.Store conn.old).now.trees rows.items) }
+    ensures in_order { HasCleanDisk (state S.Store conn.new) → (first : ℕ) (kept list : List Stored)
+        → HoldsAll (state S.Store conn.old) first kept list
+        → IfOk result (λ rows. rows.items ≡ rows_from first (kept ++ list)) }
     ensures reads { OnlyReads (λ schema. schema ≡ kept_schema)
         (state S.Store conn.old) (state S.Store conn.new) result }
 {
@@ -79,6 +87,14 @@ pub fn read_history<S: Alter>(
         → (state S.Store conn.old).now.schema ≡ step_schema
         → IfOk result (λ found. IfSome found
         (λ it. Lists ((state S.Store conn.old).now.trees 0) it.first it.steps.items)) }
+    // Ok isn't `None` for rows without a gap, of which one is no kept row, at positions below 2^64 - 1.
+    ensures there { HasCleanDisk (state S.Store conn.new) → (first : ℕ) (kept list : List Stored)
+        → HoldsAll (state S.Store conn.old) first kept list → list ≢ []
+        → first + length kept + length list < 2 ^ 64 → IfOk result (λ found. IsSome found) }
+    ensures bare_there { HasCleanDisk (state S.Store conn.new)
+        → (state S.Store conn.old).now.schema ≡ step_schema → (first : ℕ) (list : List Stored)
+        → Lists ((state S.Store conn.old).now.trees 0) first list → list ≢ []
+        → first + length list < 2 ^ 64 → IfOk result (λ found. IsSome found) }
     ensures reads { OnlyReads IsStoreSchema
         (state S.Store conn.old) (state S.Store conn.new) result }
 {

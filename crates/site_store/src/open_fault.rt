@@ -2,7 +2,6 @@ ghost use Rattle.std.specs.Prelude.{◌≡◌};
 ghost use Rattle.site_store.specs.OpenFaults.{open_fault};
 ghost use Rattle.site_store.specs.Restored.{IsOfRows};
 
-use dots::Memory;
 use sqlite::{Error, ErrorCode};
 use stored_steps::StoreFault;
 use thiserror::Error;
@@ -40,12 +39,6 @@ pub enum OpenFault {
     /// An allocation was refused.
     #[error("out of memory")]
     Memory,
-}
-
-impl From<Memory> for OpenFault {
-    fn from(_: Memory) -> OpenFault {
-        OpenFault::Memory
-    }
 }
 
 // What an error of the database is, as the fault of an open: `InUse`, `CannotOpen`, `NoStore`,

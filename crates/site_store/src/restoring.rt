@@ -1,10 +1,12 @@
 //! The site of a store, and a start of it.
-ghost use Rattle.std.specs.Prelude.{◌≡◌, ◌≤◌, ◌<◌, ◌^◌, ◌+◌, ◌-◌, ◌++◌, ◌∷◌, [], ℕ, List};
-ghost use Rattle.std.specs.Prelude.{Err, IfErr, IfOk, IsTrue, OnErr, OnOk, drop, false, length, min};
-ghost use Rattle.std.specs.Prelude.{sum_by};
+ghost use Rattle.std.specs.Prelude.{◌≡◌, ◌≢◌, ◌↔◌, ◌≤◌, ◌<◌, ◌^◌, ◌+◌, ◌-◌, ◌++◌, ◌∷◌, []};
+ghost use Rattle.std.specs.Prelude.{ℕ, List, Err, IfErr, IfOk, IsTrue, OnErr, OnOk, drop, false};
+ghost use Rattle.std.specs.Prelude.{length, min, sum_by};
 ghost use Rattle.sqlite.specs.Held.{state};
 ghost use Rattle.sqlite.specs.State.{HasCleanDisk};
 ghost use Rattle.site_journal.specs.declared.journaled.TheConstants.{MOST_STEPS};
+ghost use Rattle.dots.specs.declared.limits.TheConstants.{MOST_COUNT};
+ghost use Rattle.stored_steps.specs.RowsLead.{MakeSite};
 ghost use Rattle.stored_steps.specs.StartRows.{start_row};
 ghost use Rattle.stored_steps.specs.Stored.{Stored};
 ghost use Rattle.site_store.specs.declared.open_fault.OpenFault.{OpenFault};
@@ -73,6 +75,13 @@ fn bytes_since_base(rows: &[StoredRow]) -> u64
     }
 }
 
+// Whether two more rows have positions up to `LAST_POSITION`, where `len` rows stand at the positions from `first` on.
+fn has_places(first: u64, len: u64) -> bool
+    ensures { IsTrue result ↔ first + len < LAST_POSITION }
+{
+    first < LAST_POSITION && len < LAST_POSITION - first
+}
+
 // The rows of a store. What the database holds stays. Errors, in order: those of the database, as `open` has them; `Gap`, if a position is
 // missing between two rows, or two more rows have no positions up to `LAST_POSITION`.
 fn listed_rows<S: Alter>(alloc: Global, conn: &mut Connection<S>) -> Result<Listed, OpenFault>
@@ -84,6 +93,10 @@ fn listed_rows<S: Alter>(alloc: Global, conn: &mut Connection<S>) -> Result<List
         (state S.Store conn.old) (state S.Store conn.new) result }
     ensures unchanged { KeepsRefusedRows (state S.Store conn.old) (state S.Store conn.new) result }
     ensures fits { IfOk result (λ it. it.first + length it.steps.items < LAST_POSITION) }
+    // Over a clean disk rows without a gap, at least one, are not refused as `Gap`, if two more rows have positions.
+    ensures there { HasCleanDisk (state S.Store conn.new) → (first : ℕ) (rows : List Stored)
+        → Holds (state S.Store conn.old) first rows → rows ≢ []
+        → first + length rows < LAST_POSITION → IfErr result (λ fault. IsOfRows fault → ⊥) }
 {
     let found = match read_all(alloc, conn) {
         Ok(found) => found,
@@ -93,7 +106,7 @@ fn listed_rows<S: Alter>(alloc: Global, conn: &mut Connection<S>) -> Result<List
         return Err(OpenFault::Gap);
     };
     let len = listed.steps.len() as u64;
-    if listed.first >= LAST_POSITION || len >= LAST_POSITION - listed.first {
+    if !has_places(listed.first, len) {
         drop(listed);
         return Err(OpenFault::Gap);
     }
@@ -119,6 +132,12 @@ pub fn restore_site<S: Alter>(
     ensures restored { HasCleanDisk (state S.Store conn.new)
         → IsStoreSchema (state S.Store conn.old).now.schema
         → IfOk result (λ it. IsRestoredAt (state S.Store conn.old) it) }
+    // Over a clean disk fewer than 2^40 rows that make a site of this number with these queues, if two more rows have positions, are
+    // refused neither as `Gap` nor as `Site`.
+    ensures makes { HasCleanDisk (state S.Store conn.new) → (first : ℕ) (rows : List Stored)
+        → Holds (state S.Store conn.old) first rows → MakeSite site list.now rows
+        → first + length rows < LAST_POSITION → length rows < MOST_COUNT
+        → IfErr result (λ fault. IsOfRows fault → ⊥) }
     ensures outside { OnOk result ((state S.Store conn.old).in_transaction ≡ false) }
     ensures reads { OnlyReads IsStoreSchema
         (state S.Store conn.old) (state S.Store conn.new) result }

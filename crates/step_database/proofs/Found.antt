@@ -7,11 +7,12 @@ use Rattle.site_journal.proofs.Leading.{lead_same}
 use Rattle.stored_steps.specs.declared.restored_site.RestoredSite.{RestoredSite}
 use Rattle.stored_steps.specs.Bases.{IsReadBase}
 use Rattle.stored_steps.specs.Restoring.{IsRestoredSite}
-use Rattle.stored_steps.specs.RowsLead.{RowsLead}
+use Rattle.stored_steps.specs.RowsLead.{MakeSite, RowsLead}
 use Rattle.stored_steps.specs.StartRows.{is_start}
+use Rattle.stored_steps.specs.StepRows.{rows_of}
 use Rattle.stored_steps.specs.Stored.{Stored}
 use Rattle.stored_steps.proofs.BaseLaws.{same_base}
-use Rattle.stored_steps.proofs.Replaying.{one_site}
+use Rattle.stored_steps.proofs.Replaying.{one_site, rows_site, steps_lead}
 use Rattle.site_store.specs.Steps.{Lists}
 use Rattle.site_store.proofs.RowLemmas.{lists_once}
 use Rattle.step_database.specs.Standing.{IsFoundSite, StandForSteps, StoreOrigin}
@@ -45,3 +46,25 @@ pub found_site : (table : List Row) (origin : StoreOrigin) (steps : List Step) �
 found_site table origin steps it first rows found lists is =
     let same = (lists_once table it.first first it.rows rows it.lists lists (some_row it.rows it.stand.rest it.stand.first it.stand.rows_are)).1 in
     restored_stands origin it.rows steps it.more found it.stand (subst (λ (l : List Stored). IsRestoredSite l found) (sym same) is)
+
+-- rows that stand for steps make a site
+stand_makes : (origin : StoreOrigin) (rows : List Stored) (steps : List Step) → StandForSteps origin rows steps → MakeSite origin.begun.site origin.begun.names rows
+stand_makes origin rows steps s =
+    let last = s.legal.state in
+    let led = s.lead last s.legal.lead in
+    let here = rows_site s.base.replica last s.rest led in
+    let there = rows_site origin.begun last (rows_of steps) (steps_lead origin.begun last steps s.legal.lead s.within) in record {
+      base = s.base;
+      first = s.first;
+      rest = s.rest;
+      to = last;
+      rows_are = s.rows_are;
+      base_is = s.base_is;
+      site_is = sym here.0 ∙ there.0;
+      names_are = sym here.1 ∙ there.1;
+      lead = led;
+    }
+
+-- a table whose rows begin with those of steps has rows that make a site
+pub found_makes : (table : List Row) (origin : StoreOrigin) (steps : List Step) → BeginsWith table origin steps → (first : ℕ) × (rows : List Stored) × Lists table first rows × MakeSite origin.begun.site origin.begun.names rows
+found_makes table origin steps it = (it.first, it.rows, it.lists, stand_makes origin it.rows (steps ++ it.more) it.stand)

@@ -10,6 +10,7 @@ ghost use Rattle.sqlite.specs.Tree.{Trees};
 ghost use Rattle.sqlite_store.specs.declared.store.FileStore.{FileStore};
 ghost use Rattle.site_journal.specs.declared.step.Step.{Step};
 ghost use Rattle.stored_steps.specs.Restoring.{IsRestoredSite};
+ghost use Rattle.stored_steps.specs.RowsLead.{MakeSite};
 ghost use Rattle.stored_steps.specs.Stored.{Stored};
 ghost use Rattle.stored_steps.specs.declared.restored_site.RestoredSite.{RestoredSite};
 ghost use Rattle.site_store.specs.Steps.{Lists};
@@ -18,13 +19,34 @@ ghost use Rattle.step_database.specs.Databases.{BeginsWith};
 
 use sqlite_disk::Disk;
 
-/// The site that is restored of a table whose rows begin with those of some steps has done these steps, and maybe more. Its store's name and
-/// the number of its starts are those of the store (this project's own).
+/// The site that is restored of a table whose rows begin with those of some steps has done these steps, and maybe more. Its store's name
+/// and the number of its starts are those of the store (this project's own).
 pub fn a_restored_site_has_done_the_steps()
     ensures { (table : List Row) (origin : StoreOrigin) (steps : List Step)
         → BeginsWith table origin steps
         → (first : ℕ) (rows : List Stored) (found : RestoredSite)
         → Lists table first rows → IsRestoredSite rows found → IsFoundSite origin steps found }
+{}
+
+/// A table whose rows begin with those of some steps has rows that make a site of the number and the queues of their origin. Of such rows
+/// `restore_site` of `site_store` says in its clause `makes` when it doesn't refuse them.
+pub fn the_rows_of_steps_make_a_site()
+    ensures { (table : List Row) (origin : StoreOrigin) (steps : List Step)
+        → BeginsWith table origin steps → (first : ℕ) × (rows : List Stored)
+        × Lists table first rows × MakeSite origin.begun.site origin.begun.names rows }
+{}
+
+/// Where a store keeps steps, what an open of any files that a crash leaves finds committed are rows that make a site of the number and the
+/// queues of their origin.
+pub fn the_next_run_finds_a_site<D: Disk, E: Disk>()
+    ensures { (it : FileStore D D.Disk) (origin : StoreOrigin) (steps : List Step)
+        → IsTrue (view it).is_numbered → AreDatabases (recovers it)
+        → ((db : Trees) → recovers it db → BeginsWith (db 0) origin steps)
+        → (left : Image) → (state it).may_leave left → (opened : Held (FileStore E E.Disk))
+        → FindsIn left (file_state opened)
+        → ∥ ((first : ℕ) × (rows : List Stored)
+        × Lists ((file_state opened).committed.trees 0) first rows
+        × MakeSite origin.begun.site origin.begun.names rows) ∥₁ }
 {}
 
 /// Where a store keeps steps, the site that the next run restores of any files that a crash leaves has done these steps, and maybe more.

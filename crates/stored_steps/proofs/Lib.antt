@@ -8,4 +8,6 @@ pub mod BaseCauses
 pub mod Headings
 pub mod Reading
 pub mod RestoringLaws
+pub mod Refusing
 pub mod PartsLaws
+pub mod WrittenBases

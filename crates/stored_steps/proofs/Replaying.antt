@@ -1,5 +1,5 @@
 -- Sites that say the same, and do what the same rows say, say the same again.
-use Rattle.std.proofs.Common.{◌≡◌, ◌≢◌, ◌++◌, inl, inr, ℕ, List, [], ◌∷◌, Option, Some, None, Result, Err, refl, sym, ap, subst, ◌∙◌}
+use Rattle.std.proofs.Common.{◌≡◌, ◌≢◌, ◌<◌, ◌++◌, inl, inr, ℕ, zero, suc, List, [], ◌∷◌, length, get_or, take, Option, Some, None, Result, Err, refl, sym, ap, subst, ◌∙◌, arith}
 use Rattle.std.specs.List.{All, cons_option}
 use Rattle.std.proofs.lemmas.List.Elements.{All-head, All-tail}
 use Rattle.delta_codec.proofs.FrameLaws.{one_frame}
@@ -10,7 +10,7 @@ use Rattle.replica.specs.Changes.{Makes, Meaning, Refused, change_of}
 use Rattle.replica.specs.Commands.{Follows, IsDone}
 use Rattle.replica.specs.Site.{IsSameSite, SiteState, meaning_at}
 use Rattle.replica.proofs.SameDeeds.{cut_same, follows_same, take_same, whole_same}
-use Rattle.replica.proofs.SameSites.{site_through, site_turned, unchanged_site}
+use Rattle.replica.proofs.SameSites.{site_itself, site_through, site_turned, unchanged_site}
 use Rattle.replica.proofs.TakenCopies.{taken_same}
 use Rattle.status_report.specs.declared.asks.Answer.{Answer}
 use Rattle.status_report.specs.declared.asks.Answer.TheVariants as answer
@@ -56,18 +56,18 @@ same_led a b x y d same p q =
 
 -- ---- rows
 
+row_from_same : (a b to : SiteState) (row : Stored) → IsSameSite a b → RowLeads b row to → RowLeads a row to
+row_from_same a b to row same (inl step) = inl (record {
+  step = step.step;
+  row_is = step.row_is;
+  within = step.within;
+  leads = record { old = step.leads.old; new = step.leads.new; before = site_through a b step.leads.old same step.leads.before; done = step.leads.done; after = step.leads.after };
+})
+row_from_same a b to row same (inr (is, kept)) = inr (is, site_through a b to same kept)
+
 pub rows_from_same : (a b to : SiteState) (rows : List Stored) → IsSameSite a b → RowsLead b rows to → RowsLead a rows to
 rows_from_same a b to [] same h = site_through a b to same h
-rows_from_same a b to (row ∷ rows) same (mid, one, rest) = (mid, first one, rest)
-  where
-    first : RowLeads b row mid → RowLeads a row mid
-    first (inl step) = inl (record {
-      step = step.step;
-      row_is = step.row_is;
-      within = step.within;
-      leads = record { old = step.leads.old; new = step.leads.new; before = site_through a b step.leads.old same step.leads.before; done = step.leads.done; after = step.leads.after };
-    })
-    first (inr (is, kept)) = inr (is, site_through a b mid same kept)
+rows_from_same a b to (row ∷ rows) same (mid, one, rest) = (mid, row_from_same a b mid row same one, rest)
 
 one_row : (a b x y : SiteState) (row : Stored) → IsSameSite a b → RowLeads a row x → RowLeads b row y → IsSameSite x y
 one_row a b x y row same (inl s) (inl t) =
@@ -81,6 +81,15 @@ one_row a b x y row same (inr (is, kept)) (inr (too, held)) = site_through x a y
 pub one_site : (a b x y : SiteState) (rows : List Stored) → IsSameSite a b → RowsLead a rows x → RowsLead b rows y → IsSameSite x y
 one_site a b x y [] same p q = site_through x a y (site_turned a x p) (site_through a b y same q)
 one_site a b x y (row ∷ rows) same (mid, one, rest) (between, other, more) = one_site mid between x y rows (one_row a b mid between row same one other) rest more
+
+-- where rows lead on from a site, the next one does from wherever those before it lead
+pub next_leads : (rows : List Stored) (i : ℕ) (row : Stored) (from at to : SiteState) → i < length rows → row ≡ get_or rows i row → RowsLead from (take i rows) at → RowsLead from rows to
+    → (mid : SiteState) × RowLeads at row mid
+next_leads [] i row from at to there is led whole = absurd (omega (arith, there))
+next_leads (r ∷ rows) zero row from at to there is led (mid, one, rest) =
+    (mid, subst (λ (x : Stored). RowLeads at x mid) (sym is) (row_from_same at from mid r (site_turned from at led) one))
+next_leads (r ∷ rows) (suc i) row from at to there is (here, one, led) (mid, other, rest) =
+    next_leads rows i row here at to (omega (arith, there)) is led (rows_from_same here mid to rows (one_row from from here mid r (site_itself from) one other) rest)
 
 -- rows lead on
 pub lead_on : (a b c : SiteState) (xs ys : List Stored) → RowsLead a xs b → RowsLead b ys c → RowsLead a (xs ++ ys) c

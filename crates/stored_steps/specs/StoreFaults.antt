@@ -1,5 +1,6 @@
 -- Why rows are no store of a site, by what one of them is.
-use Rattle.std.specs.Prelude.{ℕ}
+use Rattle.std.specs.Prelude.{ℕ, ◌≡◌, ◌⊎◌, ◌≤◌}
+use Rattle.dots.specs.declared.limits.TheConstants.{MOST_COUNT}
 use Rattle.site_journal.specs.declared.replay_fault.ReplayFault.{ReplayFault}
 use Rattle.site_journal.specs.declared.replay_fault.ReplayFault.TheVariants as replay_faults
 use Rattle.stored_steps.specs.declared.base_fault.BaseFault.{BaseFault}
@@ -24,3 +25,7 @@ abbrev pub replay_fault : ℕ → ReplayFault → StoreFault
 replay_fault position replay_faults.JournalFull = JournalFull
 replay_fault position (replay_faults.Damaged step) = Damaged position
 replay_fault position replay_faults.Memory = Memory
+
+-- a fault doesn't lie in what rows say: it is `Memory`, or `JournalFull` after 2^40 of these or more
+abbrev pub IsOutOfRoom : ℕ → StoreFault → Type 0
+IsOutOfRoom steps fault = (fault ≡ Memory) ⊎ ((fault ≡ JournalFull) × (MOST_COUNT ≤ steps))

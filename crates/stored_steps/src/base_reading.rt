@@ -8,8 +8,8 @@ ghost use Rattle.dots.specs.Values.{IsSite};
 ghost use Rattle.delta.specs.Frames.{frame_of};
 ghost use Rattle.replica.specs.Queues.{AreQueues};
 ghost use Rattle.stored_steps.specs.declared.limits.TheConstants.{BASE_VERSION};
-ghost use Rattle.stored_steps.specs.Bases.{IsReadBase, IsRowOfBase, IsSameBase, list_bytes};
-ghost use Rattle.stored_steps.specs.Bases.{name_bytes};
+ghost use Rattle.stored_steps.specs.Bases.{IsOfBase, IsReadBase, IsRowOfBase, IsSameBase};
+ghost use Rattle.stored_steps.specs.Bases.{list_bytes, name_bytes};
 ghost use Rattle.stored_steps.specs.BaseFaults.{HasNoBase, HasNoHeading, IsBaseRowCause};
 ghost use Rattle.stored_steps.specs.BaseFaults.{IsHeading, IsHeadingCause, head_size};
 ghost use Rattle.stored_steps.specs.BaseFaults.{HasFewerNames, HasNoName, HasOtherList};
@@ -271,6 +271,9 @@ pub fn base_of_row(
     ensures read { IfOk result (λ base. IsReadBase row.now base) }
     ensures same { (base : StoredBase) → IsRowOfBase base row.now
         → IfOk result (λ read. IsSameBase base read) }
+    // The row of a base of this site with these queues, written or read, is refused only with `Memory`.
+    ensures found { (base : StoredBase) → IsOfBase base row.now → base.replica.site ≡ site
+        → base.replica.names ≡ list.now → IfErr result (λ fault. fault ≡ BaseFault.Memory) }
     ensures cause { IfErr result (λ fault. (fault ≡ BaseFault.Memory)
         ⊎ IsBaseRowCause site list.now row.now fault) }
     ensures none { IfErr result (λ fault. (fault ≡ BaseFault.Memory)

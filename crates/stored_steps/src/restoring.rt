@@ -1,12 +1,17 @@
 //! Builds a site again of the rows of its store.
-ghost use Rattle.std.specs.Prelude.{◌≡◌, ◌<◌, ◌≤◌, ◌^◌, ◌+◌, ◌++◌, ◌∷◌, [], List, IfOk, OnOk, count_by, length};
+ghost use Rattle.std.specs.Prelude.{◌≡◌, ◌<◌, ◌≤◌, ◌^◌, ◌+◌, ◌++◌, ◌∷◌, [], List};
+ghost use Rattle.std.specs.Prelude.{IfErr, IfOk, OnOk, count_by, length};
+ghost use Rattle.dots.specs.declared.limits.TheConstants.{MOST_COUNT};
 ghost use Rattle.replica.specs.Site.{SiteState};
 ghost use Rattle.site_journal.specs.declared.journaled.TheConstants.{MOST_STEPS};
-ghost use Rattle.site_journal.specs.Journals.{IsNewJournal};
+ghost use Rattle.site_journal.specs.Journals.{IsFull, IsNewJournal};
+ghost use Rattle.site_journal.specs.Replaying.{CanCome};
 ghost use Rattle.stored_steps.specs.Bases.{IsReadBase};
 ghost use Rattle.stored_steps.specs.Restoring.{HasReplayed, HasReplayedStep, HasRoom, IsRestoredSite};
+ghost use Rattle.stored_steps.specs.RowsLead.{MakeSite, RowLeads, RowsLead};
 ghost use Rattle.stored_steps.specs.StartRows.{is_start};
-ghost use Rattle.stored_steps.specs.StoreFaults.{base_fault, replay_fault, row_fault};
+ghost use Rattle.stored_steps.specs.StoreFaults.{IsOutOfRoom, base_fault, replay_fault};
+ghost use Rattle.stored_steps.specs.StoreFaults.{row_fault};
 ghost use Rattle.stored_steps.specs.Stored.{Stored};
 
 use crate::base_reading::base_of_row;
@@ -53,7 +58,9 @@ fn replay_fault(position: u64, fault: ReplayFault) -> StoreFault
 // Makes room for one step more in a journal: drops the steps of one that is full. One with 2^40 steps in all stays full. Fails only with
 // `Memory`, and then drops none.
 fn make_room(journal: &mut Journaled) -> Result<(), StoreFault>
-    ensures { OnOk result (HasRoom journal.old journal.new) }
+    ensures room { OnOk result (HasRoom journal.old journal.new) }
+    ensures full { OnOk result (IsFull journal.new → journal.new.count ≡ MOST_COUNT) }
+    ensures memory { IfErr result (λ fault. fault ≡ StoreFault.Memory) }
 {
     if !journal.is_full() {
         return Ok(());
@@ -71,7 +78,9 @@ fn make_room(journal: &mut Journaled) -> Result<(), StoreFault>
 // refuses the step, or gives another answer or other bytes; `Memory`, which may replace both. After an error the journal may have dropped
 // its steps, and after `Damaged` it may have a different step more.
 fn replay_step(journal: &mut Journaled, position: u64, step: &Step) -> Result<(), StoreFault>
-    ensures { OnOk result (HasReplayedStep journal.old step.now journal.new) }
+    ensures done { OnOk result (HasReplayedStep journal.old step.now journal.new) }
+    ensures refused { CanCome journal.old step.now
+        → IfErr result (λ fault. IsOutOfRoom journal.old.count fault) }
 {
     make_room(journal)?;
     match journal.replay(step) {
@@ -91,6 +100,8 @@ fn replay_row(
 ) -> Result<(), StoreFault>
     ensures replayed { (from : SiteState) (rows : List Stored) → HasReplayed from rows journal.old
         → OnOk result (HasReplayed from (rows ++ row.now ∷ []) journal.new) }
+    ensures refused { (to : SiteState) → RowLeads journal.old.replica row.now to
+        → IfErr result (λ fault. IsOutOfRoom journal.old.count fault) }
     ensures limit { OnOk result (journal.new.limit ≡ journal.old.limit) }
 {
     if row.is_start() {
@@ -116,6 +127,9 @@ fn replay_rows(
     requires { first + length rows.now < 2 ^ 64 }
     ensures replayed { (from : SiteState) → HasReplayed from [] journal.old
         → OnOk result (HasReplayed from rows.now journal.new) }
+    ensures refused { (from to : SiteState) → HasReplayed from [] journal.old
+        → RowsLead from rows.now to
+        → IfErr result (λ fault. IsOutOfRoom (length rows.now) fault) }
     ensures limit { OnOk result (journal.new.limit ≡ journal.old.limit) }
 {
     let mut position = first;
@@ -137,7 +151,8 @@ fn starts_in(rows: &[StoredRow]) -> u64
 fn begin(alloc: Global, replica: Replica, limit: u32) -> Result<Journaled, StoreFault>
     requires some { 1 ≤ limit }
     requires most { limit ≤ MOST_STEPS }
-    ensures { IfOk result (λ journal. IsNewJournal replica limit journal) }
+    ensures new { IfOk result (λ journal. IsNewJournal replica limit journal) }
+    ensures memory { IfErr result (λ fault. fault ≡ StoreFault.Memory) }
 {
     match Journaled::new(alloc, replica, limit) {
         Ok(journal) => Ok(journal),
@@ -162,6 +177,8 @@ fn restore_from(
     requires fits { first + length rows.now < 2 ^ 64 }
     ensures restored { (row : Stored) → IsReadBase row base
         → IfOk result (λ it. IsRestoredSite (row ∷ rows.now) it) }
+    ensures refused { (to : SiteState) → RowsLead base.replica rows.now to
+        → IfErr result (λ fault. IsOutOfRoom (length rows.now) fault) }
     ensures site { IfOk result (λ it. it.journal.replica.site ≡ base.replica.site) }
     ensures names { IfOk result (λ it. it.journal.replica.names ≡ base.replica.names) }
     ensures limit { IfOk result (λ it. it.journal.limit ≡ limit) }
@@ -205,6 +222,9 @@ pub fn restore(
     requires most { limit ≤ MOST_STEPS }
     requires fits { first + length rows.now < 2 ^ 64 }
     ensures restored { IfOk result (λ it. IsRestoredSite rows.now it) }
+    // Rows that make a site of this number with these queues are refused only with `Memory`, or if they are 2^40 or more.
+    ensures makes { MakeSite site list.now rows.now
+        → IfErr result (λ fault. IsOutOfRoom (length rows.now) fault) }
     ensures site { IfOk result (λ it. it.journal.replica.site ≡ site) }
     ensures names { IfOk result (λ it. it.journal.replica.names ≡ list.now) }
     ensures limit { IfOk result (λ it. it.journal.limit ≡ limit) }

@@ -15,10 +15,10 @@ returns-clause-listed g c clean first kept list holds some =
     let both = c.in_ok-rows.ensures.listed clean holds.schema in
     if_listed c.listed_from.result _ _
     (λ it listed. history_once trees first it.first kept list it.steps.items holds.all some (history_of trees c.in_ok-rows.rows.items it.first it.steps.items both (sym c.as_slice.ensures.value ∙ listed)))
-    c.listed_from.ensures
+    c.listed_from.ensures.rows
 
 pub returns-clause-found : goal.returns-clause-found
 returns-clause-found g c clean has =
     let trees = (state g.S.Store c.args.conn.now).now.trees in
     let both = c.in_ok-rows.ensures.listed clean has in
-    if_listed c.listed_from.result _ _ (λ it listed. history_of trees c.in_ok-rows.rows.items it.first it.steps.items both (sym c.as_slice.ensures.value ∙ listed)) c.listed_from.ensures
+    if_listed c.listed_from.result _ _ (λ it listed. history_of trees c.in_ok-rows.rows.items it.first it.steps.items both (sym c.as_slice.ensures.value ∙ listed)) c.listed_from.ensures.rows

@@ -1,6 +1,9 @@
 use Rattle.std.proofs.Common.{◌≡◌, ◌∷◌, ℕ, List, IfOk, sym, subst}
 use Rattle.stored_steps.specs.Restoring.{IsRestoredSite}
+use Rattle.stored_steps.specs.RowsLead.{MakeSite}
+use Rattle.stored_steps.specs.StoreFaults.{IsOutOfRoom}
 use Rattle.stored_steps.specs.Stored.{Stored}
+use Rattle.stored_steps.proofs.Refusing.{out_of_rest, rest_leads}
 use Rattle.stored_steps.proofs.restoring.restore.Goals as goal
 
 pub returns-clause-restored : goal.returns-clause-restored
@@ -16,3 +19,10 @@ returns-clause-names c = subst (λ (l : List (List ℕ)). IfOk c.restore_from.re
 
 pub returns-clause-limit : goal.returns-clause-limit
 returns-clause-limit c = c.restore_from.ensures.limit
+
+pub returns-clause-makes : goal.returns-clause-makes
+returns-clause-makes c makes =
+    let rows : c.args.rows.now ≡ c.in-Some.row.now ∷ c.in-Some.rest.now = c.in-Some.ensures.cases.0 in
+    let here : MakeSite c.args.site c.args.list.now (c.in-Some.row.now ∷ c.in-Some.rest.now) = subst (λ (l : List Stored). MakeSite c.args.site c.args.list.now l) rows makes in
+    let led = rest_leads c.args.site c.args.list.now c.in-Some.row.now c.in-Some.rest.now c.in-Ok.base c.in-Ok.ensures.read here in
+    out_of_rest c.in-Some.row.now c.in-Some.rest.now c.args.rows.now rows c.restore_from.result (c.restore_from.ensures.refused led.0 led.1)
