@@ -779,7 +779,7 @@ def spelled(message, lot):
 
 def hostile_stream(seed):
     """A stream at random: messages, a fault, and up to 300 KB of messages behind it. The messages before the fault, the bytes of all, and the fault's
-    text with how many whole messages stand behind the last of those before it."""
+    words with how many whole messages stand behind the last of those before it."""
     lot = random.Random(seed)
     before = [message_by_lot(lot, seed) for _ in range(lot.randrange(1, 200))]
     after = [message_by_lot(lot, seed) for _ in range(lot.randrange(5_000))]
@@ -790,28 +790,32 @@ def hostile_stream(seed):
     ])
     given = [spelled(it, lot) for it in before]
     rest = fault + b"\r\n\r\n" + b"".join(spelled(it, lot) for it in after)
-    return before, b"".join(given), rest, f"session ended: {text}; {len(after) + 1} commands behind it were not done"
+    return before, b"".join(given), rest, (text, len(after) + 1)
 
 
-def send_all(it, given):
-    """Sends bytes, as far as the server takes them."""
+def send_all(it, given, took):
+    """Sends bytes, as far as the server takes them, and adds the seconds that this takes to a list."""
+    begun = time.monotonic()
     with contextlib.suppress(OSError):
         it.send(given)
+    took.append(time.monotonic() - begun)
 
 
 def hostile_session(server, seed, stream, model):
-    """A client that sends a hostile stream at once gets the replies to all messages before the fault. What is logged of it."""
-    before, given, rest, text = stream
+    """A client that sends a hostile stream at once gets the replies to all messages before the fault. Returns its name, the words of its fault,
+    how many commands stand behind, and whether it was fast: a server reads no more from a client that pauses for 0.2 seconds."""
+    before, given, rest, fault = stream
     login = f"Action: Login\r\nUsername: {USER}\r\nSecret: {SECRET}\r\n\r\n".encode()
     wanted = f"{GREETING}\r\nResponse: Success\r\nMessage: Authentication accepted\r\n\r\n".encode()
     wanted += b"".join(model.reply(it, True) for it in before)
+    took = []
     with Client(server.port) as it:
-        sender = threading.Thread(target=send_all, args=(it, login + given + rest))
+        sender = threading.Thread(target=send_all, args=(it, login + given + rest, took))
         sender.start()
         written = it.rest()
         sender.join()
         need(written == wanted, f"hostile stream {seed}: {first_difference(wanted, written) if written != wanted else ''}")
-        return 0, it.name, text
+        return it.name, *fault, took[0] < 0.2
 
 
 def hostile_streams(streams=40, times=20):
@@ -823,11 +827,20 @@ def hostile_streams(streams=40, times=20):
         for _ in range(times):
             events += threads.map(lambda seed: hostile_session(server, seed, them[seed], models[seed]), range(streams))
         server.read_log(lambda logged: logged.count(b": session ended: ") >= len(events))
-        lines = collections.Counter(server.stop().splitlines())
-        for site, name, text in events:
-            lines[f"queue_sites: site {site}: client {name}: {text}".encode()] -= 1
-        others = [it for it, number in lines.items() if number and not (number > 0 and it.endswith(b": waits for a place"))]
-        need(not others, f"of hostile streams the server logged {others!r}")
+        ended = re.compile(r"queue_sites: site 0: client (\S+): session ended: (.+); (\d+) commands behind it were not done")
+        logged = collections.defaultdict(list)
+        for line in server.stop().decode().splitlines():
+            if not line.endswith(": waits for a place"):
+                need(it := ended.fullmatch(line), f"of hostile streams the server logged {line!r}")
+                logged[it[1]].append((it[2], int(it[3])))
+        for name, fault, count, is_fast in events:
+            need(logged[name], f"of the hostile client {name} the server logged nothing")
+            said, number = logged[name].pop(0)
+            is_right = number == count or (number < count and not is_fast)
+            need(said == fault and is_right, f"of the hostile client {name} with {fault} and {count} commands the server logged {said} and {number}")
+        need(not any(logged.values()), f"of hostile streams the server logged {dict(logged)!r} too")
+        fast = sum(is_fast for *_, is_fast in events)
+        need(2 * fast > len(events), f"only {fast} of {len(events)} hostile clients were fast enough to show what a server counts")
     return f"{streams} hostile streams, {times} times over"
 
 
