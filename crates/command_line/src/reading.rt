@@ -531,8 +531,14 @@ fn login_text(word: &str) -> Option<Text80> {
 fn queue_list(alloc: Global, queues: &[&str]) -> Result<QueueList, Refusal> {
     let mut names = Vec::new(alloc);
     for queue in queues {
-        let name = QueueName::new(queue.as_bytes()).map_err(|_| Refusal::Wrong("bad queue list"))?;
-        names.push(name).map_err(|_| Refusal::Memory)?;
+        let Ok(name) = QueueName::new(queue.as_bytes()) else {
+            drop(names);
+            return Err(Refusal::Wrong("bad queue list"));
+        };
+        if names.push(name).is_err() {
+            drop(names);
+            return Err(Refusal::Memory);
+        }
     }
     match QueueList::new(alloc, &names) {
         Ok(list) => Ok(list),

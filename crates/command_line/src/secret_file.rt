@@ -75,5 +75,8 @@ pub(crate) fn read_secret<R: Files>(rt: &R, name: &str) -> Result<Text80, Secret
     };
     drop(file);
     let front = piece.get(..count).unwrap_or(&piece);
-    Text80::new(first_line(front)).map_err(|_| SecretFault::NotText)
+    match Text80::new(first_line(front)) {
+        Ok(secret) => Ok(secret),
+        Err(_) => Err(SecretFault::NotText),
+    }
 }

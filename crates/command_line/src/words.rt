@@ -177,19 +177,19 @@ pub(crate) fn right_words<'a>(
 // The words of the subcommand that was found; of `script` without any if none was, which clap rules out. It fails only when out of memory.
 fn words_of<'a>(alloc: Global, matches: &ArgMatches<'a>) -> Result<CommandWords<'a>, AllocError> {
     if let Some(serve) = matches.subcommand_matches("serve") {
-        return serve_words(alloc, serve).map(CommandWords::Serve);
+        return Ok(CommandWords::Serve(serve_words(alloc, serve)?));
     }
     if let Some(site) = matches.subcommand_matches("site") {
-        return site_words(alloc, site).map(CommandWords::Site);
+        return Ok(CommandWords::Site(site_words(alloc, site)?));
     }
     if let Some(audit) = matches.subcommand_matches("audit") {
-        return strings_of(alloc, audit, "FILE").map(CommandWords::Audit);
+        return Ok(CommandWords::Audit(strings_of(alloc, audit, "FILE")?));
     }
     if let Some(steps) = matches.subcommand_matches("steps") {
         return Ok(CommandWords::Steps(steps_words(steps)));
     }
     match matches.subcommand_matches("script") {
-        Some(script) => script_words(alloc, script).map(CommandWords::Script),
+        Some(script) => Ok(CommandWords::Script(script_words(alloc, script)?)),
         None => Ok(CommandWords::Script(ScriptWords {
             sites: 0,
             queues: Vec::new(alloc),

@@ -16,7 +16,7 @@ use sha2::{Digest, Sha256};
 pub const CARD_BYTES: usize = 73;
 
 /// Which site it is, of which store, which start of it and which process, and of which queues.
-#[derive(Clone, Copy, Debug, PartialEq, Eq)]
+#[derive(Clone, Copy, PartialEq, Eq)]
 pub struct Card {
     /// The site's number. On a card of another site it may be that of no site.
     pub number: u8,

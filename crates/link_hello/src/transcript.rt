@@ -1,7 +1,7 @@
 use crate::Card;
 
 /// What both sides of a hello know: both nonces and both cards.
-#[derive(Clone, Copy, Debug, PartialEq, Eq)]
+#[derive(Clone, Copy, PartialEq, Eq)]
 pub struct Transcript {
     /// The nonce of the site that dials.
     pub dialer_nonce: [u8; 32],

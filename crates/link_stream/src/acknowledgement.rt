@@ -5,7 +5,7 @@ ghost use Rattle.link_stream.specs.Items.{IsAcknowledgement, acknowledgement_byt
 pub const ACKNOWLEDGEMENT_BYTES: usize = 8;
 
 /// What an acceptor sends back over a link.
-#[derive(Clone, Copy, Debug, PartialEq, Eq)]
+#[derive(Clone, Copy, PartialEq, Eq)]
 pub enum Acknowledgement {
     /// How many bytes it has read since the hello, items that are not whole yet included. A number above 2^64 - 3 is sent as 2^64 - 3.
     Taken(u64),

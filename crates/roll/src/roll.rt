@@ -12,7 +12,7 @@ use std::marker::Model;
 const NUMBERS: usize = SITES as usize;
 
 /// Which store a site is of, the greatest start count that was seen of it, and the process of that start.
-#[derive(Clone, Copy, Debug, PartialEq, Eq)]
+#[derive(Clone, Copy)]
 pub struct Identity {
     /// The 16 bytes that name the store.
     pub store: [u8; 16],
@@ -22,9 +22,9 @@ pub struct Identity {
     pub process: [u8; 16],
 }
 
-/// The stores that were seen, one for each of the 64 site numbers. As long as the roll lasts a number stays that of the first store that was
-/// seen with it, its start count never falls, and each start stays that of the first process that was seen with it. A new process begins
-/// with a roll on which no store was seen.
+/// The stores that were seen, one for each of the 64 site numbers. As long as the roll lasts a number stays that of the first store that
+/// was seen with it, its start count never falls, and each start stays that of the first process that was seen with it. A new process
+/// begins with a roll on which no store was seen.
 #[derive(Drop)]
 pub struct Roll {
     seen: [Option<Identity>; NUMBERS],
@@ -91,7 +91,7 @@ impl Roll {
             return Err(refusal);
         }
         let Some(site) = card.site() else {
-            return Err(Refusal::NoSuchSite);
+            unreachable!();
         };
         let place = usize::from(card.number);
         if let Some(seen) = self.seen[place] {

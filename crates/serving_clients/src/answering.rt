@@ -56,7 +56,7 @@ fn answer_at_a_place<R: Wait + Clock, D: Desk<R>>(
         }
     };
     if let Err(turn) = clients.places.try_take(rt) {
-        log.log_waiting(rt);
+        log.log(rt, ClientEvent::Waits);
         clients.places.take_in_turn(rt, turn);
     }
     answer_one(rt, alloc, clients, log, &stream, desk);

@@ -138,11 +138,6 @@ impl<'a> ClientLog<'a> {
             self.log(rt, event);
         }
     }
-
-    /// Logs that the client waits, since its site answers as many clients as it may.
-    pub fn log_waiting<R: Wait>(&self, rt: &R) {
-        self.log(rt, ClientEvent::Waits);
-    }
 }
 
 // What looks on at a client's session: it logs logins, and sets the cell that the client's source reads once the client has logged in.

@@ -10,7 +10,7 @@ use std::time::Duration;
 pub(crate) const STREAM_TRIES: u32 = 1_000;
 
 // Why a read or a write of a stream did nothing.
-#[derive(Clone, Copy, PartialEq, Eq)]
+#[derive(Clone, Copy)]
 pub(crate) enum StreamFault {
     // It waited for as long as it may.
     Late,

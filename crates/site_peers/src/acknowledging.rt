@@ -12,6 +12,7 @@ use std::sync::Wait;
 use std::time::Clock;
 
 // What acknowledges over a stream the bytes that were read of it, and asks for a whole where the site is behind.
+#[derive(Drop)]
 pub(crate) struct StreamAcknowledger<'a> {
     stream: &'a TcpStream,
     // Whether the site ends, and with it the link.
@@ -23,26 +24,6 @@ pub(crate) struct StreamAcknowledger<'a> {
     count: ReadCount,
     time: ItemTime,
     lag: Lag,
-}
-
-impl<'a> Drop for StreamAcknowledger<'a> {
-    fn drop(self) {
-        let StreamAcknowledger {
-            stream: _,
-            ending: _,
-            heard: _,
-            log: _,
-            peer: _,
-            sender,
-            count,
-            time,
-            lag,
-        } = self;
-        drop(sender);
-        drop(count);
-        drop(time);
-        drop(lag);
-    }
 }
 
 impl<'a> StreamAcknowledger<'a> {

@@ -13,7 +13,7 @@ const REFUSED_MILLIS: u64 = 5_000;
 const ITSELF_MILLIS: u64 = 60_000;
 
 /// How a connection to a peer has ended, as its next one sees it.
-#[derive(Clone, Copy, Debug, PartialEq, Eq)]
+#[derive(Clone, Copy)]
 pub enum DialEnd {
     /// The link was up for some seconds.
     WasUp,

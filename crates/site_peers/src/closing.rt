@@ -13,8 +13,13 @@ const LAST_WAIT_MILLIS: u64 = 200;
 // How many bytes are read at a time after a link's end.
 const LAST_PIECE: usize = 4_096;
 
-// Reads and drops what the peer still sends, until it closes, sends nothing for 0.2 seconds, 2 seconds are over, or a call fails.
-fn drain<R: Wait + Clock>(rt: &R, stream: &TcpStream) {
+// Ends the writing side of a stream so that the peer can read all that was written: a stream that is closed over unread bytes discards what
+// its peer has not read yet. So it reads and drops what the peer still sends, until the peer closes, sends nothing for 0.2 seconds, or 2
+// seconds are over. The caller closes the stream. A failure ends this, and is ignored.
+pub(crate) fn close_gently<R: Wait + Clock>(rt: &R, stream: &TcpStream) {
+    if stream.shutdown(Shutdown::Write).is_err() {
+        return;
+    }
     let Some(begun) = millis(rt) else {
         return;
     };
@@ -35,14 +40,5 @@ fn drain<R: Wait + Clock>(rt: &R, stream: &TcpStream) {
             Ok(_) => {}
             Err(_) => return,
         }
-    }
-}
-
-// Ends the writing side of a stream, and then drops what the peer still sends, for 2 seconds at most, so that the peer can read all that
-// was written: a stream that is closed over unread bytes discards what its peer has not read yet. The caller closes it. A failure is
-// ignored.
-pub(crate) fn close_gently<R: Wait + Clock>(rt: &R, stream: &TcpStream) {
-    if stream.shutdown(Shutdown::Write).is_ok() {
-        drain(rt, stream);
     }
 }

@@ -8,7 +8,7 @@ use crate::peer_links::Peer;
 use crate::stream_ends::{StreamAcknowledgements, WRITE_WAITS, prepare};
 use crate::window_sink::WindowSink;
 use crate::{
-    BackOff, DialEnd, EndReason, Ending, LinkLog, Meeting, OutletFault, PeerLinks, Ring, end_links,
+    BackOff, DialEnd, Ending, LinkLog, Meeting, OutletFault, PeerLinks, Ring, end_links,
     meet_acceptor, send_items,
 };
 use ami_text::StdSink;
@@ -209,15 +209,6 @@ fn dial_once<
     (true, fault)
 }
 
-// Why the site ends after a connection that has ended by this fault: the peer refuses it as `TakenNumber`, `OlderCopy` or
-// `SecondCopy`. `None`: it doesn't end.
-fn reason_of(fault: DialFault) -> Option<EndReason> {
-    match fault {
-        DialFault::Hello(fault) => end_reason(fault),
-        _ => None,
-    }
-}
-
 // How a connection that has ended by this fault counts for the next one: as `Itself` or `Refused`, by the fault; else as `WasUp` if
 // `was_long`, its link was up and fell 3 seconds after the dialing or later; else as `Failed`.
 fn end_of(fault: DialFault, was_long: bool) -> DialEnd {
@@ -229,27 +220,6 @@ fn end_of(fault: DialFault, was_long: bool) -> DialEnd {
         | DialFault::Outlet(OutletFault::FrameRefused) => DialEnd::Refused,
         _ if was_long => DialEnd::WasUp,
         _ => DialEnd::Failed,
-    }
-}
-
-// Whether at least `time` milliseconds have passed since `since`. False where the clock could not be read.
-fn has_passed<R: Clock>(rt: &R, since: Option<u64>, time: u64) -> bool {
-    match (since, millis(rt)) {
-        (Some(since), Some(now)) => now >= since.saturating_add(time),
-        _ => false,
-    }
-}
-
-// Logs why a link is down, unless it is down for the same cause as before, `last`.
-fn log_fault<R: Wait>(
-    rt: &R,
-    log: LinkLog<'_>,
-    peer: &Peer,
-    fault: DialFault,
-    last: Option<DialFault>,
-) {
-    if last != Some(fault) {
-        log.log_down(rt, peer.address.as_str(), fault);
     }
 }
 
@@ -275,21 +245,25 @@ fn wait_to_dial<R: Wait + Clock, G: Drop>(
     links.ending.wait_unhurried(rt, rest, hurries)
 }
 
-// How many milliseconds are left of `time` that began at `since`. 0 where the clock could not be read.
-fn left_of<R: Clock>(rt: &R, since: Option<u64>, time: u64) -> u64 {
-    match (since, millis(rt)) {
-        (Some(since), Some(now)) => since.saturating_add(time).saturating_sub(now),
-        _ => 0,
-    }
+// How many milliseconds are left of `time` that began at `since`. `None`: the clock could not be read.
+fn left_of<R: Clock>(rt: &R, since: Option<u64>, time: u64) -> Option<u64> {
+    let now = millis(rt)?;
+    Some(since?.saturating_add(time).saturating_sub(now))
 }
 
-// Dials a peer again and again, with pauses, until the site ends, which cuts a pause short, as `wait_to_dial` says. It logs why a link
-// falls, and why there is none if the dialing before had another cause. A peer that turns out to be the site itself is noted. One that
-// refuses the site as `TakenNumber`, `OlderCopy` or `SecondCopy` ends it.
-fn dial_until_end<
+/// Dials the peer at this place of the list, sends over the link what waits for it, and dials again when the link falls, until the site
+/// ends. Returns at once where there is no such place. Pauses between two dialings are those of a `BackOff`. The end of the site cuts a
+/// pause short. A link from another site does so too, unless the dialing before was refused or reached the site itself; but the next one
+/// begins 0.1 seconds after it at the earliest, or 1 second if it led to a link. A line is logged when a link is up, when it falls while
+/// the site goes on, and when a dialing fails for another cause than the one before it. A peer that turns out to be the site itself is
+/// noted. One that refuses the site as `TakenNumber`, `OlderCopy` or `SecondCopy` ends it.
+pub fn dial_peer<
     R: Net<Listener = TcpListener, Stream = TcpStream> + Wait + Clock + RandomSource,
     G: Ring<R> + Drop,
->(rt: &R, alloc: Global, links: &PeerLinks<G>, log: LinkLog<'_>, peer: &Peer) {
+>(rt: &R, alloc: Global, links: &PeerLinks<G>, log: LinkLog<'_>, place: usize) {
+    let Some(peer) = links.peers.get(place) else {
+        return;
+    };
     let mut back_off = BackOff::new();
     let mut last = None;
     for _ in rt.forever() {
@@ -299,16 +273,18 @@ fn dial_until_end<
         if fault == DialFault::Ending {
             return;
         }
-        if was_up {
-            last = None;
+        if was_up || last != Some(fault) {
+            log.log_down(rt, peer.address.as_str(), fault);
         }
-        log_fault(rt, log, peer, fault, last);
         last = Some(fault);
-        if let Some(reason) = reason_of(fault) {
-            end_links(rt, links, log, reason);
+        if let DialFault::Hello(hello) = fault {
+            if let Some(reason) = end_reason(hello) {
+                end_links(rt, links, log, reason);
+            }
         }
-        let end = end_of(fault, was_up && has_passed(rt, begun, LONG_MILLIS));
-        if end == DialEnd::Itself {
+        let was_long = was_up && left_of(rt, begun, LONG_MILLIS) == Some(0);
+        let end = end_of(fault, was_long);
+        if matches!(end, DialEnd::Itself) {
             peer.itself.store(1, Ordering::SeqCst);
         }
         let pause = back_off.pause(end, random(rt));
@@ -317,21 +293,9 @@ fn dial_until_end<
         } else {
             HURRIED_MILLIS
         };
-        let least = left_of(rt, begun, spacing);
+        let least = left_of(rt, begun, spacing).unwrap_or(0);
         if wait_to_dial(rt, links, end, pause, least, hurries) {
             return;
         }
-    }
-}
-
-/// Dials the peer at this place of the list, sends over the link what waits for it, and dials again when the link falls, until the site
-/// ends. Returns at once where there is no such place. A line is logged when a link is up, when it falls, and when a dialing fails for
-/// another cause than the one before it. A peer that refuses the site as `TakenNumber`, `OlderCopy` or `SecondCopy` ends it.
-pub fn dial_peer<
-    R: Net<Listener = TcpListener, Stream = TcpStream> + Wait + Clock + RandomSource,
-    G: Ring<R> + Drop,
->(rt: &R, alloc: Global, links: &PeerLinks<G>, log: LinkLog<'_>, place: usize) {
-    if let Some(peer) = links.peers.get(place) {
-        dial_until_end(rt, alloc, links, log, peer);
     }
 }

@@ -8,7 +8,6 @@ use ami_text::Source;
 use dots::SharedBytes;
 use link_keys::Key;
 use link_stream::ItemReceiver;
-use site_journal::DeskFault;
 use site_pumps::Inlet;
 use std::alloc::Global;
 use std::sync::Wait;
@@ -82,17 +81,4 @@ impl<R: Wait, S: Source + Drop, A: Acknowledge<R> + Drop> Inlet<R> for LinkInlet
             }
         }
     }
-}
-
-// Has the acknowledger of a link note that the site has dropped its last frame, for this lack of room or memory. The link goes on.
-pub(crate) fn fall_behind<R, S: Source + Drop, A: Acknowledge<R> + Drop>(
-    rt: &R,
-    inlet: &mut LinkInlet<S, A>,
-    fault: DeskFault,
-)
-    ensures source { inlet_source inlet.new ≡ inlet_source inlet.old }
-    ensures stream { inlet_stream inlet.new ≡ inlet_stream inlet.old }
-    ensures fault { inlet_fault inlet.new ≡ inlet_fault inlet.old }
-{
-    inlet.acknowledger.fall_behind(rt, fault);
 }

@@ -4,7 +4,6 @@ ghost use Rattle.site_peers.specs.Turns.{WorksInTurn};
 
 use crate::acknowledging::StreamAcknowledger;
 use crate::clock::millis;
-use crate::giving::fall_behind;
 use crate::heard_links::HeardPeer;
 use crate::stream_ends::SILENT_MILLIS;
 use crate::{Acknowledge, HearFault, InletFault, LinkInlet, LinkLog, PeerLinks, take_frames};
@@ -37,18 +36,6 @@ impl<'a, R, G: Drop> Drop for TakenCount<'a, R, G> {
             site: _,
             is_noted: _,
         } = self;
-    }
-}
-
-impl<'a, R, G: Drop> TakenCount<'a, R, G> {
-    // A sink for the frames of this site, of which none was taken over this link.
-    fn new(rt: &'a R, links: &'a PeerLinks<G>, site: SiteId) -> TakenCount<'a, R, G> {
-        TakenCount {
-            rt,
-            links,
-            site,
-            is_noted: false,
-        }
     }
 }
 
@@ -104,7 +91,7 @@ fn take_each<R: Wait, P: Port<R>, S: Source + Drop, A: Acknowledge<R> + Drop, K:
         let Some(lack) = lack_of(fault) else {
             return fault;
         };
-        fall_behind(rt, inlet, lack);
+        inlet.acknowledger.fall_behind(rt, lack);
     }
     unreachable!()
 }
@@ -148,7 +135,12 @@ pub(crate) fn hear_frames<R: Wait + Clock, G: Drop, P: Port<R>>(
     );
     let source = StdSource::new(stream);
     let mut inlet = LinkInlet::new(alloc, items, source, acknowledger);
-    let mut count = TakenCount::new(rt, links, peer.site);
+    let mut count = TakenCount {
+        rt,
+        links,
+        site: peer.site,
+        is_noted: false,
+    };
     let fault = take_each(rt, port, &mut inlet, &mut count);
     drop(count);
     end_of(inlet, fault)

@@ -107,14 +107,6 @@ fn meet<R: Wait + Clock + RandomSource, G: Drop>(
     }
 }
 
-// Whether this site is the one that was dialed by itself: then nothing is logged.
-fn is_itself(fault: HearFault) -> bool {
-    matches!(
-        fault,
-        HearFault::Hello(HelloFault::IsRefused(Refusal::Itself))
-    )
-}
-
 // Whether a frame was refused as `Conflict`: it gives a change another value than this site has.
 fn is_conflict(fault: HearFault) -> bool {
     matches!(
@@ -157,7 +149,11 @@ fn log_refused<R: Wait, G: Drop>(
     address: &SocketAddr,
     fault: HearFault,
 ) {
-    if !is_itself(fault) && links.heard.note_cause(rt, address.ip(), fault) {
+    let is_itself = matches!(
+        fault,
+        HearFault::Hello(HelloFault::IsRefused(Refusal::Itself))
+    );
+    if !is_itself && links.heard.note_cause(rt, address.ip(), fault) {
         log.log_refused(rt, address, fault);
     }
 }

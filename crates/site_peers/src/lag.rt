@@ -7,7 +7,7 @@ use std::marker::Model;
 const ASK_MILLIS: u64 = 5_000;
 
 /// What a site that is behind a peer does now (this project's own).
-#[derive(Clone, Copy, Debug, PartialEq, Eq)]
+#[derive(Clone, Copy, PartialEq, Eq)]
 pub enum LagStep {
     /// Nothing.
     Wait,

@@ -17,6 +17,7 @@ const MOST_LINKS: u64 = 64;
 // What a link has to send: a beat every 0.95 seconds, and what waits for its peer. Each n/2 to 3n/2 seconds, where n, 2 to 64, is how many
 // links of the site are up, it asks for a whole if frames of others were taken since it last did. At each beat it rings the bell while its
 // peer wants a whole. It gives a beat at once if the peer's queue has it look at the connection.
+#[derive(Drop)]
 pub(crate) struct LinkQueue<'a, G: Drop> {
     links: &'a PeerLinks<G>,
     log: LinkLog<'a>,
@@ -30,21 +31,6 @@ pub(crate) struct LinkQueue<'a, G: Drop> {
     looks: u64,
     // Whether it is logged that memory is lacking for what waits.
     is_logged: bool,
-}
-
-impl<'a, G: Drop> Drop for LinkQueue<'a, G> {
-    fn drop(self) {
-        let LinkQueue {
-            links: _,
-            log: _,
-            peer: _,
-            beat: _,
-            whole: _,
-            taken: _,
-            looks: _,
-            is_logged: _,
-        } = self;
-    }
 }
 
 impl<'a, G: Drop> LinkQueue<'a, G> {

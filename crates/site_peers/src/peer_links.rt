@@ -139,13 +139,6 @@ impl<G: Drop> PeerLinks<G> {
         })
     }
 
-    /// How many peers it dials.
-    pub fn peer_count(&self) -> usize
-        ensures { result ≡ peer_count self.now }
-    {
-        self.peers.len()
-    }
-
     /// Whether it dials a peer of which it has taken no frame since the launch; the first frame of a link is a whole. A peer to which no
     /// link was up counts, since its number isn't known. One that has turned out to be the site itself doesn't.
     pub fn awaits_peers<R: Wait>(&self, rt: &R) -> bool {

@@ -86,14 +86,9 @@ impl SharedQueue {
 }
 
 /// The outbox of a peer whose queue is shared. Since a lock hides the queue, its clauses say nothing of it; those of `SendQueue` do.
+#[derive(Drop)]
 pub struct SharedOutbox<'a> {
     queue: &'a SharedQueue,
-}
-
-impl<'a> Drop for SharedOutbox<'a> {
-    fn drop(self) {
-        let SharedOutbox { queue: _ } = self;
-    }
 }
 
 impl<'a> SharedOutbox<'a> {

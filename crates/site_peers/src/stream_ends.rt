@@ -137,22 +137,6 @@ impl<'a, R: Wait + Clock, G: Ring<R> + Drop> StreamAcknowledgements<'a, R, G> {
         }
     }
 
-    // Makes a whole due, and rings the bell of the thread that makes it.
-    fn require_whole(&self) {
-        self.peer.queue.require_whole(self.rt);
-        self.links.bell.ring(self.rt);
-    }
-
-    // Notes a number of bytes that the peer has acknowledged, and returns it. Error: `WentBack` if it is less than the one before it, which
-    // then stays.
-    fn take_number(&mut self, count: u64) -> Result<Option<u64>, OutletFault> {
-        if count < self.taken {
-            return Err(OutletFault::Window(WindowFault::WentBack));
-        }
-        self.taken = count;
-        Ok(Some(count))
-    }
-
     // Takes a piece of the acceptor's bytes. Returns the last number in it, which is the greatest; `None`: there is none. Each `Behind` in
     // it makes a whole due, and rings. The first error ends it: `Receive`; `Window`, a number went back; `FrameRefused`.
     fn take(&mut self, piece: &[u8]) -> Result<Option<u64>, OutletFault> {
@@ -162,8 +146,17 @@ impl<'a, R: Wait + Clock, G: Ring<R> + Drop> StreamAcknowledgements<'a, R, G> {
         let mut last = None;
         for _ in 0..PIECE {
             match self.receiver.next_acknowledgement() {
-                Ok(Some(Acknowledgement::Taken(count))) => last = self.take_number(count)?,
-                Ok(Some(Acknowledgement::Behind)) => self.require_whole(),
+                Ok(Some(Acknowledgement::Taken(count))) => {
+                    if count < self.taken {
+                        return Err(OutletFault::Window(WindowFault::WentBack));
+                    }
+                    self.taken = count;
+                    last = Some(count);
+                }
+                Ok(Some(Acknowledgement::Behind)) => {
+                    self.peer.queue.require_whole(self.rt);
+                    self.links.bell.ring(self.rt);
+                }
                 Ok(Some(Acknowledgement::Refused)) => return Err(OutletFault::FrameRefused),
                 Ok(None) => return Ok(last),
                 Err(fault) => return Err(OutletFault::Receive(fault)),

@@ -22,7 +22,7 @@ use site_journal::{DecodeFault, DecodedFrame, DeskFault, Receipt, TakeFault};
 use status_report::Ask;
 use std::marker::Model;
 use std::sync::atomic::{AtomicBool, AtomicU64, Ordering};
-use std::sync::{Mutex, MutexGuard, Wait};
+use std::sync::{Condvar, Mutex, MutexGuard, Wait};
 use std::thread;
 use std::time::Duration;
 
@@ -136,6 +136,17 @@ impl<S: StepStore, L: StoredLedger> StoredDesk<S, L> {
         }
     }
 
+    // Waits at this place until the first `wanted` steps are saved or the store is free. Returns the shelf, which is locked.
+    fn ready_shelf<R: Wait>(
+        &self,
+        rt: &R,
+        place: &Condvar,
+        wanted: u64,
+    ) -> MutexGuard<'_, Shelf<S, L>> {
+        let shelf = self.shelf.lock(rt);
+        place.wait_while(rt, shelf, |shelf| !shelf.is_ready(wanted))
+    }
+
     // Waits until the first `wanted` steps are saved or the store is free; then, if they aren't saved, takes the store, saves all that the
     // site has done, in this way, puts the store back, and wakes those who wait for that, after a fault too. The shelf isn't locked
     // meanwhile. Faults as of `save_by`. No contract says what is saved.
@@ -143,12 +154,9 @@ impl<S: StepStore, L: StoredLedger> StoredDesk<S, L> {
         ensures { IfErr result (λ fault.
             (fault ≡ DeskFault.Unsaved) ⊎ (fault ≡ DeskFault.Memory)) }
     {
-        let shelf = self.shelf.lock(rt);
-        let mut shelf = self
-            .returns
-            .others()
-            .wait_while(rt, shelf, |shelf| !shelf.is_ready(wanted));
+        let mut shelf = self.ready_shelf(rt, self.returns.others(), wanted);
         if wanted <= shelf.saved() {
+            drop(shelf);
             return Ok(());
         }
         let vault = shelf.take();
@@ -257,13 +265,12 @@ impl<S: StepStore, L: StoredLedger> StoredDesk<S, L> {
             (fault ≡ DeskFault.Unsaved) ⊎ (fault ≡ DeskFault.Memory)) }
     {
         let end = done.end();
-        let shelf = self.shelf.lock(rt);
-        let mut shelf = self
-            .returns
-            .of_turn(turn)
-            .wait_while(rt, shelf, |shelf| !shelf.is_ready(end));
+        let mut shelf = self.ready_shelf(rt, self.returns.of_turn(turn), end);
         let done = match shelf.settled(done, &self.mark) {
-            Ok(settled) => return Ok(settled),
+            Ok(settled) => {
+                drop(shelf);
+                return Ok(settled);
+            }
             Err(done) => done,
         };
         let vault = shelf.take();

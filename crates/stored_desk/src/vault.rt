@@ -136,7 +136,6 @@ impl<S: StepStore, L: StoredLedger> Vault<S, L> {
         requires well { self.old.broken ≡ false }
         requires rest { IsGroupOfRest S.groups group history (length self.old.list) }
         requires legal { IsLegalHistory L.base history }
-        ensures keeps { S.keeps self.new.store self.new.list }
         ensures list { OnOk result (self.new.list ≡ history) }
         ensures grows { IsPrefix self.old.list self.new.list }
         ensures well { OnOk result (self.new.broken ≡ false) }
@@ -173,7 +172,6 @@ impl<S: StepStore, L: StoredLedger> Vault<S, L> {
         site: &Mutex<RecordedSite<L>>,
         drops: bool,
     ) -> Result<(), DeskFault>
-        ensures keeps { S.keeps self.new.store self.new.list }
         ensures grows { IsPrefix self.old.list self.new.list }
         ensures none { self.old.broken ≡ true → OnOk result ⊥ }
         ensures same { OnErr result (self.new.list ≡ self.old.list) }
@@ -201,7 +199,6 @@ impl<S: StepStore, L: StoredLedger> Vault<S, L> {
     fn put_base(&mut self, site: Replica) -> Result<(), DeskFault>
         requires well { self.old.broken ≡ false }
         requires lead { LeadAll L.base self.old.list site }
-        ensures keeps { S.keeps self.new.store self.new.list }
         ensures list { self.new.list ≡ self.old.list }
         ensures memory { result ≡ Err DeskFault.Memory → self.new ≡ self.old }
         ensures broken { result ≡ Err DeskFault.Unsaved → self.new.broken ≡ true }
@@ -233,7 +230,6 @@ impl<S: StepStore, L: StoredLedger> Vault<S, L> {
         mark: &Mark<L>,
         site: &Mutex<RecordedSite<L>>,
     ) -> Result<(), DeskFault>
-        ensures keeps { S.keeps self.new.store self.new.list }
         ensures grows { IsPrefix self.old.list self.new.list }
         ensures none { self.old.broken ≡ true → OnOk result ⊥ }
         ensures memory { result ≡ Err DeskFault.Memory → self.new.broken ≡ false }

@@ -21,20 +21,3 @@ invariant_of-self-in-Err g c =
     let i = c.self.invariant in
     let lead = lead_from (g.S.StepStore.begun c.self.inside.store) g.L.SiteLedger.base c.args.site c.self.inside.prefix i.4 (subst (λ (l : List Step). LeadAll g.L.SiteLedger.base l c.args.site) (sym list) c.requires.lead) in
     (i.0, i.1, c.in-Err.ensures.kept c.self.inside.prefix c.args.site (i.3 well) i.2 c.in-Ok.ensures lead, (λ e. absurd (true≢false e)), subst (λ (s : SiteState). IsSameSite s g.L.SiteLedger.base) (sym c.in-Err.ensures.begun) i.4)
-
-pub returns-in-Ok-replace_base-clause-keeps : goal.returns-in-Ok-replace_base-clause-keeps
-returns-in-Ok-replace_base-clause-keeps g c =
-    let list : c.self.inside.prefix ≡ c.args.self.now.list = ap (λ v. v.list) c.self.view_is in
-    let well : c.self.inside.is_broken ≡ false = ap (λ v. v.broken) c.self.view_is ∙ c.requires.well in
-    let i = c.self.invariant in
-    let lead = lead_from (g.S.StepStore.begun c.self.inside.store) g.L.SiteLedger.base c.args.site c.self.inside.prefix i.4 (subst (λ (l : List Step). LeadAll g.L.SiteLedger.base l c.args.site) (sym list) c.requires.lead) in
-    let both = c.in-Ok-replace_base.ensures.replaced c.self.inside.prefix c.args.site (i.3 well) i.2 c.in-Ok.ensures lead in
-    both.1
-
-pub returns-in-Err-clause-keeps : goal.returns-in-Err-clause-keeps
-returns-in-Err-clause-keeps g c =
-    let list : c.self.inside.prefix ≡ c.args.self.now.list = ap (λ v. v.list) c.self.view_is in
-    let well : c.self.inside.is_broken ≡ false = ap (λ v. v.broken) c.self.view_is ∙ c.requires.well in
-    let i = c.self.invariant in
-    let lead = lead_from (g.S.StepStore.begun c.self.inside.store) g.L.SiteLedger.base c.args.site c.self.inside.prefix i.4 (subst (λ (l : List Step). LeadAll g.L.SiteLedger.base l c.args.site) (sym list) c.requires.lead) in
-    c.in-Err.ensures.kept c.self.inside.prefix c.args.site (i.3 well) i.2 c.in-Ok.ensures lead
