@@ -2,10 +2,10 @@
 ghost use Rattle.std.specs.Prelude.{◌≡◌, None, Some, false};
 
 use crate::links::hellos::{
-    ACCEPTOR_OPENS, ANSWER, DIALER_OPENS, OFFER, WELCOME, accept, assert_keys, begin, end, joined,
-    judge, transcript,
+    ACCEPTOR_OPENS, ANSWER, DIALER_OPENS, OFFER, WELCOME, accept, assert_keys, begin, end, judge,
+    transcript,
 };
-use crate::links::shared::bytes;
+use crate::links::shared::{bytes, joined};
 use ami_text::{Failed, MemorySink, MemorySource, Sink, Source};
 use link_hello::HelloFault;
 use std::alloc::Global;

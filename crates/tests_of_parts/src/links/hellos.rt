@@ -1,7 +1,7 @@
 //! Hellos, byte by byte.
 ghost use Rattle.std.specs.Prelude.{◌≡◌, OnOk, Some, false};
 
-use crate::links::shared::{QUEUES, assert_bytes, bytes, bytes32, card};
+use crate::links::shared::{QUEUES, assert_bytes, bytes, bytes32, card, joined};
 use ami_text::{MemorySink, MemorySource, Sink, Source};
 use dots::QueueName;
 use link_hello::{
@@ -88,17 +88,6 @@ pub(crate) fn transcript(rt: &impl Abort) -> Transcript {
     }
 }
 
-// Some parts in hexadecimal, as bytes.
-pub(crate) fn joined(rt: &impl Abort, alloc: Global, parts: &[&str]) -> Vec<u8> {
-    let mut all = Vec::new(alloc);
-    for part in parts {
-        let bytes = bytes(rt, alloc, part);
-        all.extend_from_slice(&bytes).expect(rt, "memory");
-        drop(bytes);
-    }
-    all
-}
-
 // The hello of the site that dials over these devices, up to the other's card.
 pub(crate) fn begin<S: Source, W: Sink>(
     rt: &impl Abort,
@@ -143,8 +132,8 @@ fn assert_begun(
     assert_written(rt, alloc, sink, written);
 }
 
-// The hello of the site that dials, up to the other's card, which comes in pieces of `most` bytes by at most `reads` reads. It is written in
-// pieces of `piece` bytes by at most `writes` writes.
+// The hello of the site that dials, up to the other's card, which comes in pieces of `most` bytes by at most `reads` reads. It is written
+// in pieces of `piece` bytes by at most `writes` writes.
 fn begun_over(
     rt: &impl Abort,
     alloc: Global,

@@ -12,6 +12,17 @@ pub(crate) fn bytes(rt: &impl Abort, alloc: Global, digits: &str) -> Vec<u8> {
     hex::decode(alloc, digits).expect(rt, "digits")
 }
 
+// The bytes that some parts spell together, each in hexadecimal.
+pub(crate) fn joined(rt: &impl Abort, alloc: Global, parts: &[&str]) -> Vec<u8> {
+    let mut all = Vec::new(alloc);
+    for part in parts {
+        let bytes = bytes(rt, alloc, part);
+        all.extend_from_slice(&bytes).expect(rt, "memory");
+        drop(bytes);
+    }
+    all
+}
+
 // The 32 bytes that hexadecimal digits spell.
 pub(crate) fn bytes32(rt: &impl Abort, digits: &str) -> [u8; 32] {
     let mut bytes = [0u8; 32];

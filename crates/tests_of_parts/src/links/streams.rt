@@ -1,7 +1,7 @@
 //! Items and acknowledgements, byte by byte.
 ghost use Rattle.std.specs.Prelude.{◌≡◌, ◌<◌, false};
 
-use crate::links::shared::{assert_bytes, bytes, key};
+use crate::links::shared::{assert_bytes, bytes, joined, key};
 use ami_text::{MemorySink, MemorySource};
 use link_keys::Key;
 use link_stream::{
@@ -43,8 +43,8 @@ const ALTERED: &str =
 const OTHER_KEY: &str =
     "0000001851440200000000000000000100000000000000000000000011f335075bed9652448c2a7ac9f0ca86";
 
-// Acknowledgements of 0 and 84 bytes, of a refused frame and of an acceptor that is behind, each with its tag but for the last byte, and one
-// of 0 bytes under the key of items.
+// Acknowledgements of 0 and 84 bytes, of a refused frame and of an acceptor that is behind, each with its tag but for the last byte, and
+// one of 0 bytes under the key of items.
 const ACKNOWLEDGED_NONE: &str = "0000000000000000c0a771de4bd67bb758578f938819ad";
 
 const ACKNOWLEDGED_84: &str = "0000000000000054dbf670ac51baf75133df4b34adeb31";
@@ -54,17 +54,6 @@ const ACKNOWLEDGED_REFUSED: &str = "fffffffffffffffffd365dcab3f129044efa6ccc8377
 const ACKNOWLEDGED_BEHIND: &str = "fffffffffffffffef29aa883cbb2270d9da35cf099abab";
 
 const UNDER_ITEM_KEY: &str = "0000000000000000e77b2f31e6c47bdfd62fcf4dc54aa2d5";
-
-// The bytes of some parts, each in hexadecimal.
-fn all_bytes(rt: &impl Abort, alloc: Global, parts: &[&str]) -> Vec<u8> {
-    let mut all = Vec::new(alloc);
-    for part in parts {
-        let bytes = bytes(rt, alloc, part);
-        all.extend_from_slice(&bytes).expect(rt, "memory");
-        drop(bytes);
-    }
-    all
-}
 
 // How many items are received from bytes that come at most `most` at a time, up to the first fault, and that fault, which must come again.
 fn received(rt: &impl Abort, alloc: Global, bytes: &[u8], most: usize) -> (usize, ReceiveFault)
@@ -100,7 +89,7 @@ fn assert_received(
     count: usize,
     fault: ReceiveFault,
 ) {
-    let bytes = all_bytes(rt, alloc, parts);
+    let bytes = joined(rt, alloc, parts);
     assert!(*rt; received(rt, alloc, &bytes, 1) == (count, fault));
     assert!(*rt; received(rt, alloc, &bytes, 7) == (count, fault));
     assert!(*rt; received(rt, alloc, &bytes, 100) == (count, fault));
@@ -182,7 +171,7 @@ fn what_is_sent_is_received(rt: HostRuntime) {
     drop(frame);
     assert!(rt; sender.send_beat(&mut sink) == Ok(()));
     drop(sender);
-    let wanted = all_bytes(&rt, alloc, &[FIRST, SECOND, THIRD]);
+    let wanted = joined(&rt, alloc, &[FIRST, SECOND, THIRD]);
     assert!(rt; sink.as_slice() == wanted.as_slice());
     drop(sink);
     let mut source = MemorySource::new(&wanted, 3);
@@ -208,7 +197,7 @@ fn a_sink_and_a_source_fail_in_the_middle(rt: HostRuntime) {
     drop(sink);
 
     // Two items come by one read, and are given before the next one fails.
-    let both = all_bytes(&rt, alloc, &[FIRST, SECOND]);
+    let both = joined(&rt, alloc, &[FIRST, SECOND]);
     let mut source = MemorySource::failing(&both, 100, 1);
     let mut receiver = ItemReceiver::new(alloc, key(&rt, ITEM_KEY));
     assert_next(&rt, alloc, &mut receiver, &mut source, "");
@@ -298,7 +287,7 @@ fn acknowledgements_are_sent(rt: HostRuntime) {
         ACKNOWLEDGED_BEHIND,
         "11",
     ];
-    let wanted = all_bytes(&rt, alloc, &parts);
+    let wanted = joined(&rt, alloc, &parts);
     assert!(rt; sink.as_slice() == wanted.as_slice());
     drop(wanted);
     drop(sink);

@@ -18,15 +18,10 @@ const FRAME: [u8; 28] = [
 ];
 
 // A queue that gives beats, and after each of them that frame.
+#[derive(Drop)]
 struct Turns {
     alloc: Global,
     left: u32,
-}
-
-impl Drop for Turns {
-    fn drop(self) {
-        let Turns { alloc: _, left: _ } = self;
-    }
 }
 
 impl<R> ItemQueue<R> for Turns {
@@ -55,20 +50,11 @@ impl<R> ItemQueue<R> for Turns {
 }
 
 // Counts the bytes that were read, and the frames. It ends the link once more bytes than `most` were read.
+#[derive(Drop)]
 struct Count {
     bytes: usize,
     frames: u32,
     most: usize,
-}
-
-impl Drop for Count {
-    fn drop(self) {
-        let Count {
-            bytes: _,
-            frames: _,
-            most: _,
-        } = self;
-    }
 }
 
 impl Count {
