@@ -165,13 +165,12 @@ impl Model for Journaled {
 }
 
 impl Journaled {
-    /// A journal of a replica, without steps. It holds at most `limit` steps, 1 to 1,000,000. When out of memory, returns the
-    /// replica.
-    pub fn new(alloc: Global, replica: Replica, limit: u32) -> Result<Journaled, (Memory, Replica)>
+    /// A journal of a replica, without steps. It holds at most `limit` steps, 1 to 1,000,000. Fails only when out of memory, and
+    /// then drops the replica.
+    pub fn new(alloc: Global, replica: Replica, limit: u32) -> Result<Journaled, Memory>
         requires some { 1 ≤ limit }
         requires most { limit ≤ MOST_STEPS }
-        ensures begun { IfOk result (λ journal. IsNewJournal replica limit journal) }
-        ensures back { IfErr result (λ refused. refused.1 ≡ replica) }
+        ensures { IfOk result (λ journal. IsNewJournal replica limit journal) }
     {
         match replica.copy() {
             Ok(base) => Ok(Journaled {
@@ -183,7 +182,10 @@ impl Journaled {
                 replica,
                 alloc,
             }),
-            Err(fault) => Err((fault, replica)),
+            Err(fault) => {
+                drop(replica);
+                Err(fault)
+            }
         }
     }
 

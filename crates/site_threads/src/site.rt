@@ -159,8 +159,7 @@ pub(crate) fn run_replica<R: Threads + Wait + Sync, S: Sync + Drop, T: Task<S, R
             let blank = Blank::new(tasks.len() as u64);
             run_site::<Brand, R, S, T>(rt, alloc, start, blank, journal, shared, tasks)
         }
-        Err((_, replica)) => {
-            drop(replica);
+        Err(_) => {
             drop(shared);
             drop(tasks);
             Err(SiteFault::Memory)

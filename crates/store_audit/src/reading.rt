@@ -3,7 +3,7 @@ ghost use Rattle.std.specs.Prelude.{◌≡◌, ◌≢◌, ◌↔◌, ◌⊎◌, 
 ghost use Rattle.std.specs.Prelude.{IfErr, IfOk, IsTrue, OnOk};
 ghost use Rattle.std.specs.Prelude.{false, length};
 ghost use Rattle.replica.specs.Site.{IsSameSite};
-ghost use Rattle.site_journal.specs.Journals.{HasAdded, IsFull, IsNewJournal};
+ghost use Rattle.site_journal.specs.Journals.{HasAdded, IsFull};
 ghost use Rattle.site_journal.specs.declared.journaled.TheConstants.{MOST_STEPS};
 ghost use Rattle.stored_steps.specs.declared.base.StoredBase.{StoredBase};
 ghost use Rattle.stored_steps.specs.Bases.{IsReadBase};
@@ -18,7 +18,6 @@ ghost use Rattle.store_audit.specs.RowCauses.{IsRowCause, IsStepCause, StopsFor}
 
 use crate::walk::Walk;
 use crate::{JournalFault, StoreJournal};
-use dots::Memory;
 use replica::Replica;
 use site_journal::{Journaled, MOST_STEPS, ReplayFault, Step};
 use std::alloc::Global;
@@ -70,19 +69,6 @@ fn first_base(alloc: Global, row: &StoredRow) -> Result<StoredBase, JournalFault
     }
 }
 
-// A journal of a replica, without a step. It fails only when out of memory, and drops the replica.
-fn new_journal(alloc: Global, replica: Replica) -> Result<Journaled, Memory>
-    ensures { IfOk result (λ journal. IsNewJournal replica MOST_STEPS journal) }
-{
-    match Journaled::new(alloc, replica, MOST_STEPS) {
-        Ok(journal) => Ok(journal),
-        Err((fault, replica)) => {
-            drop(replica);
-            Err(fault)
-        }
-    }
-}
-
 // The walk that begins with the first row, which has this position. Errors, in order: those of `first_base`; `NotFromStart`, if the
 // position isn't 0 or the site isn't new; `Memory`.
 fn begin(alloc: Global, first: u64, row: &StoredRow) -> Result<Walk, JournalFault>
@@ -103,7 +89,7 @@ fn begin(alloc: Global, first: u64, row: &StoredRow) -> Result<Walk, JournalFaul
         drop(replica);
         return Err(JournalFault::NotFromStart);
     }
-    let journal = new_journal(alloc, replica)?;
+    let journal = Journaled::new(alloc, replica, MOST_STEPS)?;
     Ok(Walk {
         journal,
         name,

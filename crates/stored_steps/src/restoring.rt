@@ -156,10 +156,7 @@ fn begin(alloc: Global, replica: Replica, limit: u32) -> Result<Journaled, Store
 {
     match Journaled::new(alloc, replica, limit) {
         Ok(journal) => Ok(journal),
-        Err((_, replica)) => {
-            drop(replica);
-            Err(StoreFault::Memory)
-        }
+        Err(_) => Err(StoreFault::Memory),
     }
 }
 

@@ -219,9 +219,8 @@ fn begin(alloc: Global, replica: Replica, limit: u32) -> Result<(NewMark, Journa
     };
     match Journaled::new(alloc, replica, limit) {
         Ok(journal) => Ok((mark, journal)),
-        Err((_, replica)) => {
+        Err(_) => {
             drop(mark);
-            drop(replica);
             Err(Memory)
         }
     }

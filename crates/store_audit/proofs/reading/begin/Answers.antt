@@ -32,5 +32,5 @@ returns-clause-begun c =
       base = base;
       base_is = read;
       new = new;
-      walked = begun base _ c.in_ok-journal.ensures new read.limits.starts refl refl c.new.ensures.items;
+      walked = begun base _ c.in_ok-journal.ensures new read.limits.starts refl refl c.new-2.ensures.items;
     }
