@@ -412,6 +412,34 @@ def links_that_are_down(adds=20):
     return f"links that are down: equal {times[0]:.1f} and {times[1]:.1f} s after they are healed"
 
 
+def sites_without_room(counts=(9_000, 8_000), removed=2_000):
+    """Two linked sites, neither of which has room for all members of the other, log once that they are behind, take the member that is added once
+    they are linked, and show the same soon after room was made. Their wholes have more bytes than may be under way."""
+    with tempfile.TemporaryDirectory() as room, Mesh(room, 2) as mesh:
+        mesh.until_linked()
+        mesh.stop()
+        for number, it in mesh.sites.items():
+            it.add(*own_members(number, counts[number]))
+            it.forget_log()
+        mesh.heal()
+        for number, it in mesh.sites.items():
+            it.logs(f"behind site {1 - number} at ADDRESS: REASON", HEALED)
+        for number, it in mesh.sites.items():
+            it.add(f"SIP/linked-{number}")
+        for number, it in mesh.sites.items():
+            it.shows(f"SIP/linked-{1 - number}", EQUAL)
+            found = len(members(shown(it)))
+            need(found == counts[number] + 2, f"a site that is behind shows {found} members")
+        with mesh.sites[0].logged_in() as client:
+            for it in own_members(0, removed):
+                client.succeed("QueueRemove", Queue="sales", Interface=it)
+        # A site that is behind asks for a whole each 5 seconds, and has caught up 5 seconds later.
+        seconds = mesh.until_equal(sum(counts) - removed + 2, PATIENCE)
+        for number, it in mesh.sites.items():
+            it.logs(f"caught up with site {1 - number} at ADDRESS", PATIENCE)
+    return f"linked sites of {counts[0]:,} and {counts[1]:,} members, equal {seconds:.1f} s after room was made"
+
+
 def only_by_another():
     """If two sites are linked only by a third one, each shows what the other adds."""
     with tempfile.TemporaryDirectory() as room, Mesh(room, pairs=[(0, 1), (1, 2)]) as mesh:
@@ -1470,8 +1498,8 @@ def stores_of_sites():
     return "a site's store"
 
 
-TESTS = [words_of_a_site, stores_of_sites, clients_of_a_site, addresses, three_sites, links_that_are_down, only_by_another, slow_lines,
-         news_over_a_slow_line, restarts, a_peer_of_another_program, hellos_that_are_refused, sites_that_are_refused, items_that_are_refused,
+TESTS = [words_of_a_site, stores_of_sites, clients_of_a_site, addresses, three_sites, links_that_are_down, sites_without_room, only_by_another,
+         slow_lines, news_over_a_slow_line, restarts, a_peer_of_another_program, hellos_that_are_refused, sites_that_are_refused, items_that_are_refused,
          who_sits_on_the_line, acknowledgements_that_are_refused, sites_that_end, copies_that_meet, stores_that_fail, frames_that_conflict,
          wakes_that_fail, a_start_that_waits, silent_connections, silent_peers, a_peer_that_reads_nothing, refused_allocations]
 # What `all` changes, and what it does besides.

@@ -3,65 +3,51 @@ use op_arena::{Arena, ArenaFault, CellId};
 use std::process::Abort;
 use std::sync::atomic::{AtomicU64, Ordering};
 
-// Makes room for a number of further values.
-fn reserve<const LAST: u32>(rt: &impl Abort, arena: &mut Arena<u32, LAST>, room: u32) {
-    assert!(*rt; arena.reserve(room).is_ok());
-}
-
-// Asserts that there aren't cells enough for a number of further values.
-fn assert_full<const LAST: u32>(rt: &impl Abort, arena: &mut Arena<u32, LAST>, room: u32) {
-    assert!(*rt; arena.reserve(room) == Err(ArenaFault::Full));
-}
-
-// Places a value, for which there must be room.
-fn place<const LAST: u32>(rt: &impl Abort, arena: &mut Arena<u32, LAST>, value: u32) -> CellId {
-    assert!(*rt; arena.spare() > 0);
-    arena.place(value)
-}
-
-// Places a value, whose id must be this.
-fn place_at<const LAST: u32>(
+// Makes room for a number of further values. Asserts what that gives.
+fn reserve<const LAST: u32>(
     rt: &impl Abort,
     arena: &mut Arena<u32, LAST>,
-    value: u32,
-    index: u32,
-    generation: u32,
+    room: u32,
+    given: Result<(), ArenaFault>,
 ) {
-    let id = place(rt, arena, value);
-    assert!(*rt; id == CellId::new(index, generation));
+    assert!(*rt; arena.reserve(room) == given);
 }
 
-// Asserts the value of the id of this index in the first generation.
-fn assert_value<const LAST: u32>(rt: &impl Abort, arena: &Arena<u32, LAST>, index: u32, want: u32) {
-    assert!(*rt; arena.get(CellId::new(index, 0)).copied() == Some(want));
+// Places a value, for which there must be room, and whose id must be this.
+fn place<const LAST: u32>(rt: &impl Abort, arena: &mut Arena<u32, LAST>, value: u32, id: CellId) {
+    assert!(*rt; arena.spare() > 0);
+    assert!(*rt; arena.place(value) == id);
 }
 
-// Asserts that the id of this index in the first generation has no value.
-fn assert_spent<const LAST: u32>(rt: &impl Abort, arena: &Arena<u32, LAST>, index: u32) {
-    assert!(*rt; arena.get(CellId::new(index, 0)).is_none());
-}
-
-// Takes the value of the id of this index in the first generation, and asserts what it is.
-fn take<const LAST: u32>(rt: &impl Abort, arena: &mut Arena<u32, LAST>, index: u32, want: u32) {
-    assert!(*rt; arena.take(CellId::new(index, 0)) == Some(want));
-}
-
-// Asserts how many values there are, and how many cells are retired.
-fn assert_cells<const LAST: u32>(
+// Asserts the value of an id; `None` if it has none.
+fn assert_value<const LAST: u32>(
     rt: &impl Abort,
     arena: &Arena<u32, LAST>,
-    values: u32,
-    retired: u32,
+    id: CellId,
+    want: Option<u32>,
 ) {
-    assert!(*rt; arena.len() == values && arena.retired() == retired);
+    assert!(*rt; arena.get(id).copied() == want);
 }
 
-// Places a value in each cell from the second on, and takes it out again.
-fn place_and_take_all(rt: &impl Abort, arena: &mut Arena<u32, 0>) {
-    for index in 1..1_048_576 {
-        place_at(rt, arena, 7, index, 0);
-        assert_value(rt, arena, index, 7);
-        take(rt, arena, index, 7);
+// Takes the value of an id, and asserts what it is.
+fn take<const LAST: u32>(rt: &impl Abort, arena: &mut Arena<u32, LAST>, id: CellId, want: u32) {
+    assert!(*rt; arena.take(id) == Some(want));
+}
+
+// Places a value in each cell from the index `first` on. If `is_taken`, takes it out again before the next one.
+fn place_all<const LAST: u32>(
+    rt: &impl Abort,
+    arena: &mut Arena<u32, LAST>,
+    first: u32,
+    is_taken: bool,
+) {
+    for index in first..1_048_576 {
+        let id = CellId::new(index, 0);
+        place(rt, arena, index, id);
+        assert_value(rt, arena, id, Some(index));
+        if is_taken {
+            take(rt, arena, id, index);
+        }
     }
 }
 
@@ -69,17 +55,51 @@ fn place_and_take_all(rt: &impl Abort, arena: &mut Arena<u32, 0>) {
 #[test]
 fn a_cell_of_one_generation_is_retired_after_one_value(rt: HostRuntime) {
     let mut arena: Arena<u32, 0> = Arena::new(rt.alloc());
-    reserve(&rt, &mut arena, 1_048_576);
-    place_at(&rt, &mut arena, 42, 0, 0);
-    place_and_take_all(&rt, &mut arena);
-    assert_cells(&rt, &arena, 1, 1_048_575);
-    assert_full(&rt, &mut arena, 1);
-    assert_value(&rt, &arena, 0, 42);
-    assert_spent(&rt, &arena, 1);
-    assert_spent(&rt, &arena, 1_048_575);
-    take(&rt, &mut arena, 0, 42);
-    assert_cells(&rt, &arena, 0, 1_048_576);
-    assert_full(&rt, &mut arena, 1);
+    let first = CellId::new(0, 0);
+    reserve(&rt, &mut arena, 1_048_576, Ok(()));
+    place(&rt, &mut arena, 42, first);
+    place_all(&rt, &mut arena, 1, true);
+    assert!(rt; arena.len() == 1 && arena.retired() == 1_048_575);
+    reserve(&rt, &mut arena, 1, Err(ArenaFault::Full));
+    assert_value(&rt, &arena, CellId::new(1_048_575, 0), None);
+    take(&rt, &mut arena, first, 42);
+    assert!(rt; arena.len() == 0 && arena.retired() == 1_048_576);
+    reserve(&rt, &mut arena, 1, Err(ArenaFault::Full));
+    drop(arena);
+}
+
+#[test]
+fn an_arena_has_1_048_576_cells(rt: HostRuntime) {
+    let mut arena: Arena<u32, 9> = Arena::new(rt.alloc());
+    reserve(&rt, &mut arena, 1_048_577, Err(ArenaFault::Full));
+    reserve(&rt, &mut arena, 1_048_576, Ok(()));
+    assert!(rt; arena.spare() == 1_048_576);
+    place_all(&rt, &mut arena, 0, false);
+    assert!(rt; arena.len() == 1_048_576 && arena.spare() == 0);
+    reserve(&rt, &mut arena, 1, Err(ArenaFault::Full));
+    assert_value(&rt, &arena, CellId::new(16, 0), Some(16));
+    drop(arena);
+}
+
+// Of two cells of two generations the one that was taken last is used first. To make more room changes no value.
+#[test]
+fn a_taken_cell_is_used_in_its_next_generation(rt: HostRuntime) {
+    let mut arena: Arena<u32, 1> = Arena::new(rt.alloc());
+    let (first, second) = (CellId::new(0, 0), CellId::new(1, 0));
+    let (next, other) = (CellId::new(1, 1), CellId::new(0, 1));
+    reserve(&rt, &mut arena, 2, Ok(()));
+    place(&rt, &mut arena, 1, first);
+    place(&rt, &mut arena, 2, second);
+    take(&rt, &mut arena, first, 1);
+    take(&rt, &mut arena, second, 2);
+    place(&rt, &mut arena, 3, next);
+    place(&rt, &mut arena, 4, other);
+    assert_value(&rt, &arena, second, None);
+    reserve(&rt, &mut arena, 100_000, Ok(()));
+    assert_value(&rt, &arena, next, Some(3));
+    take(&rt, &mut arena, other, 4);
+    assert_value(&rt, &arena, other, None);
+    assert!(rt; arena.len() == 1 && arena.retired() == 1);
     drop(arena);
 }
 
@@ -95,141 +115,24 @@ impl Drop for Counted<'_> {
     }
 }
 
-// Places a value that counts its drops, for which there must be room.
-fn place_counted<'a>(
-    rt: &impl Abort,
-    arena: &mut Arena<Counted<'a>, 3>,
-    drops: &'a AtomicU64,
-) -> CellId {
-    assert!(*rt; arena.spare() > 0);
-    arena.place(Counted { drops })
-}
-
-// Places a number of values that count their drops. Returns the id of the last.
-fn place_all_counted<'a>(
-    rt: &impl Abort,
-    arena: &mut Arena<Counted<'a>, 3>,
-    drops: &'a AtomicU64,
-    values: u32,
-) -> CellId {
-    assert!(*rt; arena.reserve(values).is_ok());
-    let mut last = place_counted(rt, arena, drops);
-    for _ in 1..values {
-        last = place_counted(rt, arena, drops);
+// Places 40 values that count their drops.
+fn place_counted<'a>(rt: &impl Abort, arena: &mut Arena<Counted<'a>, 3>, drops: &'a AtomicU64) {
+    assert!(*rt; arena.reserve(40).is_ok());
+    for _ in 0..40u32 {
+        assert!(*rt; arena.spare() > 0);
+        arena.place(Counted { drops });
     }
-    last
-}
-
-// Takes the value of an id, and drops it alone.
-fn take_counted<'a>(
-    rt: &impl Abort,
-    arena: &mut Arena<Counted<'a>, 3>,
-    drops: &'a AtomicU64,
-    id: CellId,
-) {
-    let taken = arena.take(id);
-    assert_drops(rt, drops, 0);
-    drop(taken);
-    assert_drops(rt, drops, 1);
-}
-
-fn assert_drops(rt: &impl Abort, drops: &AtomicU64, want: u64) {
-    assert!(*rt; drops.load(Ordering::SeqCst) == want);
 }
 
 #[test]
 fn each_value_is_dropped_once(rt: HostRuntime) {
     let drops = AtomicU64::new(0);
     let mut arena: Arena<Counted<'_>, 3> = Arena::new(rt.alloc());
-    let last = place_all_counted(&rt, &mut arena, &drops, 40);
-    assert!(rt; arena.len() == 40);
-    take_counted(&rt, &mut arena, &drops, last);
+    place_counted(&rt, &mut arena, &drops);
+    let taken = arena.take(CellId::new(39, 0));
+    assert!(rt; drops.load(Ordering::SeqCst) == 0);
+    drop(taken);
+    assert!(rt; drops.load(Ordering::SeqCst) == 1);
     drop(arena);
-    assert_drops(&rt, &drops, 40);
-}
-
-// Places a value in each cell.
-fn place_all(rt: &impl Abort, arena: &mut Arena<u32, 9>) {
-    for value in 0..1_048_576 {
-        place_at(rt, arena, value, value, 0);
-        assert_value(rt, arena, value, value);
-    }
-}
-
-#[test]
-fn an_arena_has_1_048_576_cells(rt: HostRuntime) {
-    let mut arena: Arena<u32, 9> = Arena::new(rt.alloc());
-    assert_full(&rt, &mut arena, 1_048_577);
-    assert!(rt; arena.spare() == 0);
-    reserve(&rt, &mut arena, 1_048_576);
-    assert!(rt; arena.spare() == 1_048_576);
-    place_all(&rt, &mut arena);
-    assert_cells(&rt, &arena, 1_048_576, 0);
-    assert!(rt; arena.spare() == 0);
-    assert_full(&rt, &mut arena, 1);
-    assert_value(&rt, &arena, 1, 1);
-    assert_value(&rt, &arena, 2, 2);
-    assert_value(&rt, &arena, 16, 16);
-    assert_value(&rt, &arena, 1_048_575, 1_048_575);
-    drop(arena);
-}
-
-#[test]
-fn the_cell_that_was_taken_last_is_used_first(rt: HostRuntime) {
-    let mut arena: Arena<u32, 9> = Arena::new(rt.alloc());
-    reserve(&rt, &mut arena, 2);
-    let first = place(&rt, &mut arena, 1).index();
-    let second = place(&rt, &mut arena, 2).index();
-    take(&rt, &mut arena, first, 1);
-    take(&rt, &mut arena, second, 2);
-    place_at(&rt, &mut arena, 3, second, 1);
-    place_at(&rt, &mut arena, 3, first, 1);
-    drop(arena);
-}
-
-// One cell of two generations holds two values, in order.
-#[test]
-fn a_taken_cell_is_used_in_its_next_generation(rt: HostRuntime) {
-    let mut arena: Arena<u32, 1> = Arena::new(rt.alloc());
-    reserve(&rt, &mut arena, 1);
-    place_at(&rt, &mut arena, 7, 0, 0);
-    take(&rt, &mut arena, 0, 7);
-    place_at(&rt, &mut arena, 8, 0, 1);
-    assert_spent(&rt, &arena, 0);
-    assert!(rt; arena.take(CellId::new(0, 1)) == Some(8));
-    assert!(rt; arena.get(CellId::new(0, 1)).is_none());
-    assert!(rt; arena.take(CellId::new(0, 0)).is_none());
-    assert_cells(&rt, &arena, 0, 1);
-    drop(arena);
-}
-
-#[test]
-fn growth_changes_no_value(rt: HostRuntime) {
-    let mut arena: Arena<u32, 4_294_967_295> = Arena::new(rt.alloc());
-    reserve(&rt, &mut arena, 1);
-    place_at(&rt, &mut arena, 42, 0, 0);
-    reserve(&rt, &mut arena, 100_000);
-    assert!(rt; arena.spare() >= 100_000);
-    assert_value(&rt, &arena, 0, 42);
-    assert_cells(&rt, &arena, 1, 0);
-    drop(arena);
-}
-
-// Three retired cells and room for 1,048,574 values are one cell too many.
-#[test]
-fn retired_cells_count_towards_the_limit(rt: HostRuntime) {
-    let mut arena: Arena<u32, 0> = Arena::new(rt.alloc());
-    reserve(&rt, &mut arena, 3);
-    place_at(&rt, &mut arena, 1, 0, 0);
-    take(&rt, &mut arena, 0, 1);
-    place_at(&rt, &mut arena, 2, 1, 0);
-    take(&rt, &mut arena, 1, 2);
-    place_at(&rt, &mut arena, 3, 2, 0);
-    take(&rt, &mut arena, 2, 3);
-    assert_spent(&rt, &arena, 0);
-    assert_spent(&rt, &arena, 1);
-    assert_spent(&rt, &arena, 2);
-    assert_cells(&rt, &arena, 0, 3);
-    assert_full(&rt, &mut arena, 1_048_574);
-    drop(arena);
+    assert!(rt; drops.load(Ordering::SeqCst) == 40);
 }

@@ -1,5 +1,5 @@
-//! Asks as bytes: a command of each kind with each answer is encoded and decoded again, and bytes with each fault are refused for it. The
-//! bytes are worked out by hand from docs/store.md.
+//! Asks as bytes: a command of each kind is encoded and decoded again, with each kind of answer, and bytes with each fault are refused for
+//! it. The bytes are worked out by hand from docs/store.md.
 ghost use Rattle.ask_code.specs.Values.{IsKeptAnswer};
 
 use crate::parse::{interface, label, name, penalty, queue, text};
@@ -23,17 +23,8 @@ fn assert_coded(rt: &impl Abort, command: Command, answer: Result<(), Refusal>, 
     drop(command);
 }
 
-// The command that pauses an interface for a reason, or unpauses it where there is none.
-fn pause(rt: &impl Abort, of: &str, reason: &str) -> Command {
-    Command::Pause {
-        queue: queue(rt, of),
-        interface: interface(rt, "SIP/1"),
-        pause: Pause::new(reason != "-", text(rt, reason)),
-    }
-}
-
 #[test]
-fn members_are_spelled_and_read(rt: HostRuntime) {
+fn members_and_calls_are_spelled_and_read(rt: HostRuntime) {
     let add = Command::Add {
         queue: name(&rt, "sales"),
         interface: interface(&rt, "SIP/1"),
@@ -49,27 +40,41 @@ fn members_are_spelled_and_read(rt: HostRuntime) {
     };
     let refused = Err(Refusal::NotThere);
     assert_coded(&rt, remove, refused, b"\x02\x05sales\x05SIP/1\x03");
+    let completed = Command::Completed {
+        queue: name(&rt, "sales"),
+    };
+    let refused = Err(Refusal::TotalFull);
+    assert_coded(&rt, completed, refused, b"\x06\x05sales\x06");
+    let abandoned = Command::Abandoned {
+        queue: name(&rt, "sales"),
+    };
+    let refused = Err(Refusal::AlreadyThere);
+    assert_coded(&rt, abandoned, refused, b"\x07\x05sales\x02");
 }
 
 #[test]
 fn settings_are_spelled_and_read(rt: HostRuntime) {
-    let tea = pause(&rt, "-", "tea");
+    let tea = Command::Pause {
+        queue: None,
+        interface: interface(&rt, "SIP/1"),
+        pause: Pause::new(true, text(&rt, "tea")),
+    };
     assert_coded(&rt, tea, Ok(()), b"\x03\x00\x05SIP/1\x01\x03tea\x00");
-    let back = pause(&rt, "sales", "-");
+    let back = Command::Pause {
+        queue: queue(&rt, "sales"),
+        interface: interface(&rt, "SIP/1"),
+        pause: Pause::new(false, text(&rt, "-")),
+    };
     let refused = Err(Refusal::NoSuchQueue);
     assert_coded(&rt, back, refused, b"\x03\x01\x05sales\x05SIP/1\x00\x01");
     let penalty = Command::Penalty {
-        queue: queue(&rt, "-"),
+        queue: None,
         interface: interface(&rt, "SIP/1"),
         penalty: penalty(&rt, "2147483647"),
     };
     let refused = Err(Refusal::Exhausted);
-    assert_coded(
-        &rt,
-        penalty,
-        refused,
-        b"\x04\x00\x05SIP/1\x7f\xff\xff\xff\x05",
-    );
+    let bytes = b"\x04\x00\x05SIP/1\x7f\xff\xff\xff\x05";
+    assert_coded(&rt, penalty, refused, bytes);
     let ring = Command::RingInUse {
         queue: queue(&rt, "sales"),
         interface: interface(&rt, "SIP/1"),
@@ -77,28 +82,6 @@ fn settings_are_spelled_and_read(rt: HostRuntime) {
     };
     let refused = Err(Refusal::MembersFull);
     assert_coded(&rt, ring, refused, b"\x05\x01\x05sales\x05SIP/1\x01\x04");
-}
-
-#[test]
-fn counts_are_spelled_and_read(rt: HostRuntime) {
-    let completed = Command::Completed {
-        queue: name(&rt, "sales"),
-    };
-    assert_coded(
-        &rt,
-        completed,
-        Err(Refusal::TotalFull),
-        b"\x06\x05sales\x06",
-    );
-    let abandoned = Command::Abandoned {
-        queue: name(&rt, "sales"),
-    };
-    assert_coded(
-        &rt,
-        abandoned,
-        Err(Refusal::AlreadyThere),
-        b"\x07\x05sales\x02",
-    );
 }
 
 #[test]
@@ -115,21 +98,9 @@ fn the_longest_ask_has_the_most_bytes(rt: HostRuntime) {
         },
     };
     let encoded = encode_ask(&add, Ok(()));
-    assert!(rt; encoded.as_slice().len() == MOST_ASK_BYTES);
-    let ask = decode_ask(encoded.as_slice()).expect(&rt, "an ask");
-    assert!(rt; ask.command.same(&add));
-    drop(ask);
-    drop(encoded);
     drop(add);
-}
-
-// Asserts whether a command is kept with an answer.
-fn assert_kept(rt: &impl Abort, ask: &Ask, answer: Answer, wanted: bool) {
-    let kept = AnsweredCommand::of(ask, &answer);
-    drop(answer);
-    let is_kept = kept.is_some();
-    drop(kept);
-    assert!(*rt; is_kept == wanted);
+    assert!(rt; encoded.as_slice().len() == MOST_ASK_BYTES);
+    drop(encoded);
 }
 
 #[test]
@@ -137,10 +108,17 @@ fn a_refusal_for_memory_is_not_kept(rt: HostRuntime) {
     let ask = Ask::Command(Command::Completed {
         queue: name(&rt, "sales"),
     });
-    assert_kept(&rt, &ask, Answer::Done, true);
-    assert_kept(&rt, &ask, Answer::Refused(Refusal::TotalFull), true);
-    assert_kept(&rt, &ask, Answer::Refused(Refusal::Memory), false);
+    let refused = Answer::Refused(Refusal::TotalFull);
+    let kept = AnsweredCommand::of(&ask, &refused);
+    drop(refused);
+    assert!(rt; kept.is_some());
+    drop(kept);
+    let refused = Answer::Refused(Refusal::Memory);
+    let kept = AnsweredCommand::of(&ask, &refused);
+    drop(refused);
     drop(ask);
+    assert!(rt; kept.is_none());
+    drop(kept);
 }
 
 // Asserts why bytes are no ask.
@@ -149,30 +127,20 @@ fn assert_fault(rt: &impl Abort, bytes: &[u8], wanted: AskFault) {
     assert!(*rt; fault == Some(wanted), "in {bytes:?}");
 }
 
+// The first part that is at fault decides: `Truncated` if the bytes end within it.
 #[test]
 fn each_fault_has_its_bytes(rt: HostRuntime) {
     assert_fault(&rt, b"", AskFault::Truncated);
     assert_fault(&rt, b"\x00", AskFault::BadKind);
     assert_fault(&rt, b"\x08\x05sales\x00", AskFault::BadKind);
-    assert_fault(&rt, b"\x06", AskFault::Truncated);
-    assert_fault(&rt, b"\x06\x05sale", AskFault::Truncated);
     assert_fault(&rt, b"\x06\x51sale", AskFault::Truncated);
     assert_fault(&rt, b"\x06\x00\x00", AskFault::BadText);
     assert_fault(&rt, b"\x06\x01\n\x00", AskFault::BadText);
-    assert_fault(
-        &rt,
-        b"\x06\x51aaaaaaaaaaaaaaaaaaaaaaaaaaaaaaaaaaaaaaaaaaaaaaaaaaaaaaaaaaaaaaaaaaaaaaaaaaaaaaaaa\x00",
-        AskFault::BadText,
-    );
     assert_fault(&rt, b"\x04\x02", AskFault::BadBit);
-    assert_fault(
-        &rt,
-        b"\x04\x00\x05SIP/1\x80\x00\x00\x00\x00",
-        AskFault::BadNumber,
-    );
+    let large = b"\x04\x00\x05SIP/1\x80\x00\x00\x00\x00";
+    assert_fault(&rt, large, AskFault::BadNumber);
     assert_fault(&rt, b"\x04\x00\x05SIP/1\x80\x00\x00", AskFault::Truncated);
     assert_fault(&rt, b"\x06\x05sales", AskFault::Truncated);
     assert_fault(&rt, b"\x06\x05sales\x07", AskFault::BadAnswer);
-    assert_fault(&rt, b"\x06\x05sales\x08", AskFault::BadAnswer);
     assert_fault(&rt, b"\x06\x05sales\x00\x00", AskFault::Trailing);
 }

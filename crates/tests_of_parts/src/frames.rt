@@ -1,15 +1,9 @@
 //! Frames as bytes: one that is decoded in version 1 and encoded again in version 2, with ample memory or not. The cases of
 //! `cases/frames` show what frames say, and the faults of other bytes.
-use crate::parse_frames::bytes_of;
+use crate::shared::{ADDED, bytes, print};
 use delta_codec::{DecodeFault, Frame, decode, encode};
 use std::alloc::Global;
-use std::io::Print;
 use std::process::Abort;
-
-// Whether bytes have a fault.
-fn has_fault(alloc: Global, bytes: &[u8], fault: DecodeFault) -> bool {
-    decode(alloc, bytes).err() == Some(fault)
-}
 
 // Encodes a frame, which must give these bytes. Returns whether there was memory for that.
 fn is_spelled(rt: &impl Abort, alloc: Global, frame: &Frame, bytes: &[u8]) -> bool {
@@ -40,23 +34,16 @@ fn is_read_and_spelled(rt: &impl Abort, alloc: Global, bytes: &[u8], again: &[u8
     }
 }
 
-// Prints a word on a line of its own.
-fn print(rt: &(impl Abort + Print), word: &str) {
-    assert!(*rt; println!(rt; "{word}").is_ok());
-}
-
-// A frame without a ring has the same bytes in both versions, except the version itself. A fault in the part up to the heading is
-// reported whether or not memory is refused. tools/memory_tests.py runs this test with each allocation refused in turn.
+// A frame without a ring has the same bytes in both versions, except the version itself. tools/memory_tests.py runs this test with each
+// allocation refused in turn.
 #[test]
 fn a_frame_is_read_and_spelled_again_or_memory_is_wanted(rt: HostRuntime) {
-    let bytes = bytes_of(&rt, rt.alloc(), "ADDED");
-    let mut again = bytes_of(&rt, rt.alloc(), "ADDED");
+    let first = bytes(&rt, rt.alloc(), ADDED);
+    let mut again = bytes(&rt, rt.alloc(), ADDED);
     *again.get_mut(6).expect(&rt, "a version") = 2;
-    let (_, front) = bytes.split_last().expect(&rt, "a byte");
     print(&rt, "ready");
-    assert!(rt; has_fault(rt.alloc(), front, DecodeFault::Truncated));
-    let is_spelled = is_read_and_spelled(&rt, rt.alloc(), &bytes, &again);
+    let is_spelled = is_read_and_spelled(&rt, rt.alloc(), &first, &again);
     print(&rt, if is_spelled { "spelled" } else { "refused" });
-    drop(bytes);
+    drop(first);
     drop(again);
 }

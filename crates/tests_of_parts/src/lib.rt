@@ -8,8 +8,6 @@ mod arenas;
 #[cfg(test)]
 mod asks;
 #[cfg(test)]
-mod cell_ids;
-#[cfg(test)]
 mod contexts;
 #[cfg(test)]
 mod deltas;
@@ -30,15 +28,9 @@ mod model_lines;
 #[cfg(test)]
 mod parse;
 #[cfg(test)]
-mod parse_frames;
-#[cfg(test)]
 mod parse_operations;
 #[cfg(test)]
-mod replica_lines;
-#[cfg(test)]
 mod replicas;
-#[cfg(test)]
-mod restores;
 #[cfg(test)]
 mod shared;
 #[cfg(test)]

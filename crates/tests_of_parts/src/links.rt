@@ -2,7 +2,6 @@
 //! with Python's `hmac` and `hashlib`.
 mod boxes;
 mod codes;
-mod hello_order;
 mod hellos;
 mod rolls;
 mod shared;

@@ -1,27 +1,27 @@
-//! The results of a story's lines at two sites of the reference model.
+//! The results of lines at two sites of the reference model. An empty line, and one that begins with `#`, does nothing. Others are
+//!
+//! - `queues NAME..`: two new sites with these queues, and no frames;
+//! - `frame OPERATIONS`: makes a frame;
+//! - of a site, `0` or `1`, `knows OPERATIONS`, `buffer OPERATIONS` and `number N`: set what it knows, its buffer, and how many frames it
+//!   has made;
+//! - of a site, a step, whose outcome is the result: a change, such as `add QUEUE INTERFACE PENALTY`, in which `-` stands for every queue;
+//!   `cut`; `whole`; or `take N`, the frame in this place, from 0;
+//! - of a site, `row MEMBER`, `dot MEMBER`, its only visible dot, `totals QUEUE`, and `stamp`, that of the last operation that it has made.
+//!
+//! The result stands after a colon and a blank.
 use crate::parse::{
-    Words, assert_given, assert_stories, interface, label, line_and_wanted, list, member, name,
-    number, penalty, place, push, queue, queue_number, refused_text, row_text, says, site, string,
-    text, utf8, word,
+    Words, interface, label, list, member, name, number, penalty, place, queue, site, word,
 };
-use crate::parse_operations::{calls, operations, setting};
-use dots::{Bytes, Text80};
+use crate::parse_operations::{operations, setting};
+use dots::SiteId;
 use reference_model::{
-    Change, Operation, Outcome, SiteKnowledge, Step, after_step, dots_of_member, row, rows, status,
-    totals,
+    Calls, Change, Operation, Outcome, SiteKnowledge, Step, after_step, dots_of_member, row, totals,
 };
 use replica::QueueList;
-use status_report::StatusRequest;
 use std::alloc::Global;
 use std::mem;
 use std::process::Abort;
-
-// The named values of stories: operations, and the texts of reports.
-#[derive(Clone, Copy)]
-pub(crate) struct Names {
-    pub(crate) operations: &'static [(&'static str, &'static str)],
-    pub(crate) reports: &'static [(&'static str, &'static str)],
-}
+use std::str::from_utf8;
 
 // Two sites with the same queues, and the frames that there are.
 #[derive(Drop)]
@@ -31,19 +31,17 @@ struct World {
     frames: Vec<Vec<Operation>>,
 }
 
-// A site that knows nothing.
-fn new_site(alloc: Global) -> SiteKnowledge {
-    SiteKnowledge {
-        known: Vec::new(alloc),
-        buffer: Vec::new(alloc),
-        frames: 0,
-    }
-}
-
-fn new_world(rt: &impl Abort, alloc: Global, queues: &mut Words<'_>) -> World {
+// Two sites that know nothing, with these queues.
+fn new_world(rt: &impl Abort, alloc: Global, queues: &str) -> World {
     let mut sites = Vec::new(alloc);
-    sites.push(new_site(alloc)).expect(rt, "memory");
-    sites.push(new_site(alloc)).expect(rt, "memory");
+    for _ in 0..2u16 {
+        let site = SiteKnowledge {
+            known: Vec::new(alloc),
+            buffer: Vec::new(alloc),
+            frames: 0,
+        };
+        sites.push(site).expect(rt, "memory");
+    }
     World {
         list: list(rt, alloc, queues),
         sites,
@@ -51,21 +49,17 @@ fn new_world(rt: &impl Abort, alloc: Global, queues: &mut Words<'_>) -> World {
     }
 }
 
-fn site_at<'a>(rt: &impl Abort, world: &'a World, at: &str) -> &'a SiteKnowledge {
-    world.sites.get(place(rt, at)).expect(rt, at)
-}
-
-fn site_at_mut<'a>(rt: &impl Abort, world: &'a mut World, at: &str) -> &'a mut SiteKnowledge {
-    world.sites.get_mut(place(rt, at)).expect(rt, at)
-}
-
 // The change of this kind: of a queue, and but for a call of an interface.
 fn change(rt: &impl Abort, kind: &str, words: &mut Words<'_>) -> Change {
     let of = word(rt, words);
     match kind {
-        "completed" | "abandoned" => Change::CountCall {
+        "completed" => Change::CountCall {
             queue: name(rt, of),
-            calls: calls(kind),
+            calls: Calls::Completed,
+        },
+        "abandoned" => Change::CountCall {
+            queue: name(rt, of),
+            calls: Calls::Abandoned,
         },
         "add" => Change::AddMember {
             queue: name(rt, of),
@@ -106,14 +100,37 @@ fn step(
         "cut" => Step::Cut,
         "whole" => Step::Whole,
         "take" => {
-            let frame = frames.get(place(rt, word(rt, words))).expect(rt, "a frame");
+            let at = usize::from(place(rt, word(rt, words)));
+            let frame = frames.get(at).expect(rt, "a frame");
             Step::Take(copies(rt, alloc, frame))
         }
         _ => Step::Do(change(rt, kind, words)),
     }
 }
 
-fn outcome_text(rt: &impl Abort, alloc: Global, outcome: &Outcome) -> String {
+// Lets a site do a step, and returns its outcome.
+fn do_step(
+    rt: &impl Abort,
+    alloc: Global,
+    site: SiteId,
+    list: &QueueList,
+    knowledge: &mut SiteKnowledge,
+    step: Step,
+) -> Outcome {
+    let after = after_step(alloc, site, list, knowledge, &step);
+    drop(step);
+    let (after, outcome) = after.expect(rt, "memory");
+    drop(mem::replace(knowledge, after));
+    outcome
+}
+
+// The text of an outcome. A frame is put behind the others.
+fn outcome_text(
+    rt: &impl Abort,
+    alloc: Global,
+    frames: &mut Vec<Vec<Operation>>,
+    outcome: Outcome,
+) -> String {
     let text = match outcome {
         Outcome::Done => "done",
         Outcome::Nothing => "nothing",
@@ -121,74 +138,52 @@ fn outcome_text(rt: &impl Abort, alloc: Global, outcome: &Outcome) -> String {
         Outcome::Taken => "taken",
         Outcome::CellsFull => "cells full",
         Outcome::RunsFull => "runs full",
-        Outcome::Denied(refusal) => return refused_text(rt, alloc, refusal),
-        Outcome::Framed { number, .. } => {
+        Outcome::Denied(refusal) => {
+            return format!(in alloc; "refused {refusal:?}").expect(rt, "memory");
+        }
+        Outcome::Framed { number, frame } => {
+            frames.push(frame).expect(rt, "memory");
             return format!(in alloc; "frame {number}").expect(rt, "memory");
         }
     };
-    string(rt, alloc, text)
+    String::from_str(alloc, text).expect(rt, "memory")
 }
 
-// Keeps the frame of a step, if it made one.
-fn keep_frame(rt: &impl Abort, world: &mut World, outcome: Outcome) {
-    match outcome {
-        Outcome::Framed { frame, .. } => world.frames.push(frame).expect(rt, "memory"),
-        other => drop(other),
-    }
+fn utf8<'a>(rt: &impl Abort, bytes: &'a [u8]) -> &'a str {
+    from_utf8(bytes).expect(rt, "a text")
 }
 
-// Lets a site do a step, and returns its outcome.
-fn do_step(rt: &impl Abort, alloc: Global, world: &mut World, at: &str, step: &Step) -> String {
-    let site = site(rt, at);
-    let after = after_step(alloc, site, &world.list, site_at(rt, world, at), step);
-    let (known, outcome) = after.expect(rt, "memory");
-    let given = outcome_text(rt, alloc, &outcome);
-    drop(mem::replace(site_at_mut(rt, world, at), known));
-    keep_frame(rt, world, outcome);
-    given
-}
-
-// The row of a member.
-fn row_of(rt: &impl Abort, alloc: Global, known: &[Operation], member_text: &str) -> String {
+// The row of a member: its penalty, whether it is paused, why, its name, its state interface and ring in use.
+fn row_text(rt: &impl Abort, alloc: Global, known: &[Operation], member_text: &str) -> String {
     let member = member(rt, member_text);
     let row = row(alloc, known, &member).expect(rt, "memory");
-    let text = row_text(rt, alloc, row);
     drop(member);
-    text
-}
-
-// The interfaces of a queue with their penalties.
-fn rows_text(rt: &impl Abort, alloc: Global, known: &[Operation], queue: u16) -> String {
-    let mut text = String::new(alloc);
-    let rows = rows(alloc, known, queue).expect(rt, "memory");
-    for (interface, row) in rows.as_slice() {
-        let (of, penalty) = (utf8(rt, interface.as_bytes()), row.penalty);
-        let one = format!(in alloc; "[{of} {penalty}]").expect(rt, "memory");
-        push(rt, &mut text, &one);
-        drop(one);
+    match row {
+        Some(row) => {
+            let (penalty, paused, ring) = (row.penalty, row.paused, row.ring);
+            let reason = utf8(rt, row.reason);
+            let (name, state) = (utf8(rt, row.name), utf8(rt, row.state));
+            let text = format!(in alloc; "{penalty} {paused} '{reason}' '{name}' '{state}' {ring}");
+            text.expect(rt, "memory")
+        }
+        None => String::from_str(alloc, "none").expect(rt, "memory"),
     }
-    drop(rows);
-    text
 }
 
-// The visible dots of a member.
-fn dots_text(rt: &impl Abort, alloc: Global, known: &[Operation], member_text: &str) -> String {
+// The only visible dot of a member: its site and its count.
+fn dot_text(rt: &impl Abort, alloc: Global, known: &[Operation], member_text: &str) -> String {
     let member = member(rt, member_text);
     let dots = dots_of_member(alloc, known, &member).expect(rt, "memory");
     drop(member);
-    let mut text = String::new(alloc);
-    for dot in dots.as_slice() {
-        let (site, count) = (dot.site().number(), dot.count());
-        let one = format!(in alloc; "[{site}.{count}]").expect(rt, "memory");
-        push(rt, &mut text, &one);
-        drop(one);
-    }
+    assert!(*rt; dots.len() == 1);
+    let dot = dots.first().copied().expect(rt, "a dot");
     drop(dots);
-    text
+    let (site, count) = (dot.site().number(), dot.count());
+    format!(in alloc; "{site}.{count}").expect(rt, "memory")
 }
 
-fn totals_text(rt: &impl Abort, alloc: Global, known: &[Operation], queue: u16) -> String {
-    let given = totals(known, queue);
+fn totals_text(rt: &impl Abort, alloc: Global, known: &[Operation], queue: &str) -> String {
+    let given = totals(known, place(rt, queue));
     let (completed, abandoned) = (given.completed, given.abandoned);
     format!(in alloc; "{completed} {abandoned}").expect(rt, "memory")
 }
@@ -204,142 +199,77 @@ fn stamp_text(rt: &impl Abort, alloc: Global, known: &[Operation]) -> String {
     }
 }
 
-// Parses a filter; `-` is none.
-fn filter(rt: &impl Abort, word: &str) -> Option<Text80> {
-    if word == "-" {
-        None
-    } else {
-        Some(text(rt, word))
-    }
-}
-
-// Parses a report, written with a bar between lines.
-fn report(rt: &impl Abort, alloc: Global, lines: &str) -> String {
-    let mut report = String::new(alloc);
-    for line in lines.split('|') {
-        push(rt, &mut report, line);
-        push(rt, &mut report, "\r\n");
-    }
-    report
-}
-
-// Whether a text is this report.
-fn is_report(rt: &impl Abort, alloc: Global, lines: &str, text: &str) -> bool {
-    let report = report(rt, alloc, lines);
-    let is_same = report.as_str() == text;
-    drop(report);
-    is_same
-}
-
-// The name of the report that is given to a request with two filters, of a queue and of a member;
-// or the report itself, where it has no name.
-fn report_text(
-    rt: &impl Abort,
-    alloc: Global,
-    list: &QueueList,
-    known: &[Operation],
-    reports: &[(&str, &str)],
-    words: &mut Words<'_>,
-) -> String {
-    let request = StatusRequest {
-        queue: filter(rt, word(rt, words)),
-        member: filter(rt, word(rt, words)),
-        action_id: Bytes::new(Vec::new(alloc)),
-    };
-    let given = status(alloc, known, list, &request).expect(rt, "memory");
-    drop(request);
-    let mut text = utf8(rt, &given);
-    for (name, lines) in reports {
-        if is_report(rt, alloc, lines, text) {
-            text = name;
-        }
-    }
-    let named = string(rt, alloc, text);
-    drop(given);
-    named
-}
-
-// The result of a line at a site: what is seen of its knowledge, or the outcome of a step.
+// The result of a line of a site.
 fn given_at(
     rt: &impl Abort,
     alloc: Global,
-    world: &mut World,
-    names: &Names,
+    list: &QueueList,
+    sites: &mut Vec<SiteKnowledge>,
+    frames: &mut Vec<Vec<Operation>>,
     at: &str,
-    words: &mut Words<'_>,
+    line: &str,
 ) -> String {
-    let known = &site_at(rt, world, at).known;
-    let kind = word(rt, words);
+    let site = site(rt, at);
+    let knowledge = sites.get_mut(usize::from(site.number())).expect(rt, at);
+    let (kind, rest) = line.split_once(' ').unwrap_or((line, ""));
     match kind {
-        "row" => row_of(rt, alloc, known, word(rt, words)),
-        "rows" => rows_text(rt, alloc, known, queue_number(rt, word(rt, words))),
-        "dots" => dots_text(rt, alloc, known, word(rt, words)),
-        "totals" => totals_text(rt, alloc, known, queue_number(rt, word(rt, words))),
-        "stamp" => stamp_text(rt, alloc, known),
-        "report" => report_text(rt, alloc, &world.list, known, names.reports, words),
-        _ => {
-            let step = step(rt, alloc, &world.frames, kind, words);
-            let given = do_step(rt, alloc, world, at, &step);
-            drop(step);
-            given
-        }
-    }
-}
-
-// The result of a line. `knows`, `buffer` and `number` set what site 0 knows, its buffer and how many frames it has made; `frame`
-// makes a frame. Other lines are of a site.
-fn given(
-    rt: &impl Abort,
-    alloc: Global,
-    world: &mut World,
-    names: &Names,
-    words: &mut Words<'_>,
-) -> String {
-    let first = word(rt, words);
-    let texts = names.operations;
-    match first {
+        "row" => return row_text(rt, alloc, &knowledge.known, rest),
+        "dot" => return dot_text(rt, alloc, &knowledge.known, rest),
+        "totals" => return totals_text(rt, alloc, &knowledge.known, rest),
+        "stamp" => return stamp_text(rt, alloc, &knowledge.known),
+        "number" => knowledge.frames = number(rt, rest),
         "knows" => {
-            let known = operations(rt, alloc, texts, words);
-            drop(mem::replace(&mut site_at_mut(rt, world, "0").known, known));
+            let known = operations(rt, alloc, rest);
+            drop(mem::replace(&mut knowledge.known, known));
         }
         "buffer" => {
-            let buffer = operations(rt, alloc, texts, words);
-            drop(mem::replace(&mut site_at_mut(rt, world, "0").buffer, buffer));
+            let buffer = operations(rt, alloc, rest);
+            drop(mem::replace(&mut knowledge.buffer, buffer));
         }
-        "number" => site_at_mut(rt, world, "0").frames = number(rt, word(rt, words)),
-        "frame" => {
-            let frame = operations(rt, alloc, texts, words);
-            world.frames.push(frame).expect(rt, "memory");
+        _ => {
+            let mut words = rest.split_whitespace();
+            let step = step(rt, alloc, frames.as_slice(), kind, &mut words);
+            let outcome = do_step(rt, alloc, site, list, knowledge, step);
+            return outcome_text(rt, alloc, frames, outcome);
         }
-        _ => return given_at(rt, alloc, world, names, first, words),
     }
     String::new(alloc)
 }
 
-// Asserts the result of each of these lines.
-fn assert_each(rt: &impl Abort, alloc: Global, world: &mut World, names: &Names, lines: &str) {
+// The result of a line.
+fn given(rt: &impl Abort, alloc: Global, world: &mut World, line: &str) -> String {
+    let (first, rest) = line.split_once(' ').expect(rt, line);
+    match first {
+        "queues" => drop(mem::replace(world, new_world(rt, alloc, rest))),
+        "frame" => {
+            let frame = operations(rt, alloc, rest);
+            world.frames.push(frame).expect(rt, "memory");
+        }
+        at => {
+            return given_at(
+                rt,
+                alloc,
+                &world.list,
+                &mut world.sites,
+                &mut world.frames,
+                at,
+                rest,
+            );
+        }
+    }
+    String::new(alloc)
+}
+
+// Asserts the result of each line.
+pub(crate) fn assert_lines(rt: &impl Abort, alloc: Global, lines: &str) {
+    let mut world = new_world(rt, alloc, "sales");
     for line in lines.split('\n') {
-        if says(line) {
-            let (action, wanted) = line_and_wanted(line);
-            let given = given(rt, alloc, world, names, &mut action.split_whitespace());
-            assert_given(rt, action, &given, wanted);
+        if !line.is_empty() && !line.starts_with('#') {
+            let (action, wanted) = line.split_once(": ").unwrap_or((line, ""));
+            let given = given(rt, alloc, &mut world, action);
+            assert!(*rt; given.as_str() == wanted, "{action} gives {given}");
             drop(given);
         }
     }
-}
-
-// Asserts lines at two new sites; the first line has their queues.
-fn assert_story(rt: &impl Abort, alloc: Global, names: &Names, story: &str) {
-    let (queues, lines) = story.split_once('\n').expect(rt, story);
-    let mut world = new_world(rt, alloc, &mut queues.split_whitespace());
-    assert_each(rt, alloc, &mut world, names, lines);
     drop(world);
-}
-
-// Asserts stories. Each begins at a line `queues`, with two new sites of the queues that follow it.
-pub(crate) fn assert_lines(rt: &impl Abort, alloc: Global, names: &Names, lines: &str) {
-    assert_stories(rt, lines, "\nqueues ");
-    for story in lines.split("\nqueues ").skip(1) {
-        assert_story(rt, alloc, names, story);
-    }
 }

@@ -1,19 +1,9 @@
 //! Reads operations from words.
-use crate::parse::{
-    Words, dot, label, member, number, parts, penalty, site, small, text, text_of_name, word,
-};
-use dots::{Dot, Member, Pause, SiteId, Stamp};
+use crate::parse::{Words, dot, label, member, number, penalty, site, text, word};
+use dots::{Dot, Member, Pause, Stamp};
 use reference_model::{Calls, Operation, Setting, Total};
 use std::alloc::Global;
 use std::process::Abort;
-
-pub(crate) fn calls(word: &str) -> Calls {
-    if word == "completed" {
-        Calls::Completed
-    } else {
-        Calls::Abandoned
-    }
-}
 
 // What is set: `penalty 3`, `ring no`, `pause yes lunch` or `label Ann Custom:1`.
 pub(crate) fn setting(rt: &impl Abort, kind: &str, words: &mut Words<'_>) -> Setting {
@@ -28,47 +18,38 @@ pub(crate) fn setting(rt: &impl Abort, kind: &str, words: &mut Words<'_>) -> Set
 
 // A stamp: its time and its site, as `1.0`.
 fn stamp(rt: &impl Abort, word: &str) -> Stamp {
-    let (time, of) = parts(rt, word, '.');
+    let (time, of) = word.split_once('.').expect(rt, word);
     Stamp::new(number(rt, time), site(rt, of)).expect(rt, word)
 }
 
+// Dots, each written as `0.1`; or `2.1*9` for 9 dots of site 2, those of every second count from 1 on.
 fn dots(rt: &impl Abort, alloc: Global, words: &mut Words<'_>) -> Vec<Dot> {
     let mut dots = Vec::new(alloc);
     for word in words {
-        dots.push(dot(rt, word)).expect(rt, "memory");
+        let (first, times) = word.split_once('*').unwrap_or((word, "1"));
+        let first = dot(rt, first);
+        for index in 0..number(rt, times) {
+            let count = first.count().saturating_add(index.saturating_mul(2));
+            let one = Dot::new(first.site(), count).expect(rt, word);
+            dots.push(one).expect(rt, "memory");
+        }
     }
     dots
 }
 
-// Dots with their members, as `0.1@0/SIP/1`.
+// Dots with their members, as `0.1@0/SIP/1`, or `2.1*9@0/SIP/1`.
 fn members(rt: &impl Abort, alloc: Global, words: &mut Words<'_>) -> Vec<(Dot, Member)> {
-    let mut dots = Vec::new(alloc);
+    let mut members = Vec::new(alloc);
     for word in words {
-        let (of, member_text) = parts(rt, word, '@');
-        dots.push((dot(rt, of), member(rt, member_text)))
-            .expect(rt, "memory");
+        let (of, member_text) = word.split_once('@').expect(rt, word);
+        let those = dots(rt, alloc, &mut of.split_whitespace());
+        for one in those.as_slice() {
+            let pair = (*one, member(rt, member_text));
+            members.push(pair).expect(rt, "memory");
+        }
+        drop(those);
     }
-    dots
-}
-
-// The first `count` odd counts of a site.
-fn odd(rt: &impl Abort, alloc: Global, of: SiteId, count: u32) -> Vec<Dot> {
-    let mut dots = Vec::new(alloc);
-    for place in 0..count {
-        let dot = Dot::new(of, u64::from(place) * 2 + 1).expect(rt, "a dot");
-        dots.push(dot).expect(rt, "memory");
-    }
-    dots
-}
-
-// The first `count` dots of a site, all of SIP/1 in the first queue.
-fn many(rt: &impl Abort, alloc: Global, of: SiteId, count: u32) -> Vec<(Dot, Member)> {
-    let mut dots = Vec::new(alloc);
-    for place in 0..count {
-        let dot = Dot::new(of, u64::from(place) + 1).expect(rt, "a dot");
-        dots.push((dot, member(rt, "0/SIP/1"))).expect(rt, "memory");
-    }
-    dots
+    members
 }
 
 fn added(rt: &impl Abort, alloc: Global, words: &mut Words<'_>) -> Operation {
@@ -83,71 +64,49 @@ fn added(rt: &impl Abort, alloc: Global, words: &mut Words<'_>) -> Operation {
     }
 }
 
-fn counted(rt: &impl Abort, words: &mut Words<'_>) -> Operation {
-    Operation::Count {
-        site: site(rt, word(rt, words)),
-        queue: 0,
-        calls: calls(word(rt, words)),
-        total: Total::new(small(rt, word(rt, words))).expect(rt, "a total"),
-    }
-}
-
-// A write of dots of a member, as `2.0 penalty 3 0.1@0/SIP/1`; in place of the dots a number counts
-// the first dots of the stamp's site, all of SIP/1 in the first queue.
-fn written(rt: &impl Abort, alloc: Global, is_of_many: bool, words: &mut Words<'_>) -> Operation {
+fn written(rt: &impl Abort, alloc: Global, words: &mut Words<'_>) -> Operation {
     let stamp = stamp(rt, word(rt, words));
     let kind = word(rt, words);
     let setting = setting(rt, kind, words);
-    let dots = if is_of_many {
-        many(rt, alloc, stamp.site(), small(rt, word(rt, words)))
-    } else {
-        members(rt, alloc, words)
-    };
     Operation::Write {
-        dots,
+        dots: members(rt, alloc, words),
         setting,
         stamp,
         older: Vec::new(alloc),
     }
 }
 
-fn removed(rt: &impl Abort, alloc: Global, is_of_odd: bool, words: &mut Words<'_>) -> Operation {
-    let dots = if is_of_odd {
-        let of = site(rt, word(rt, words));
-        odd(rt, alloc, of, small(rt, word(rt, words)))
-    } else {
-        dots(rt, alloc, words)
-    };
-    Operation::Remove { dots }
-}
-
-// The operation of a text: `add` with a dot, a member, a stamp, a penalty and older dots;
-// `write` or `write_many`; `remove` with dots, or `remove_odd` with a site and how many of its odd
-// counts; or `count` with a site, the kind and the total.
-fn operation(rt: &impl Abort, alloc: Global, text: &str) -> Operation {
-    let mut words = text.split_whitespace();
-    let kind = word(rt, &mut words);
-    if kind == "add" {
-        added(rt, alloc, &mut words)
-    } else if kind == "count" {
-        counted(rt, &mut words)
-    } else if kind.starts_with("write") {
-        written(rt, alloc, kind == "write_many", &mut words)
-    } else {
-        removed(rt, alloc, kind == "remove_odd", &mut words)
+fn counted(rt: &impl Abort, calls: Calls, words: &mut Words<'_>) -> Operation {
+    let site = site(rt, word(rt, words));
+    let total = word(rt, words).parse::<u32>().expect(rt, "a total");
+    Operation::Count {
+        site,
+        queue: 0,
+        calls,
+        total: Total::new(total).expect(rt, "a total"),
     }
 }
 
-// The operations of these names among these texts.
-pub(crate) fn operations(
-    rt: &impl Abort,
-    alloc: Global,
-    texts: &[(&str, &str)],
-    names: &mut Words<'_>,
-) -> Vec<Operation> {
+// The operation of a text: `add` with a dot, a member, a stamp, a penalty and older dots; `write` with a stamp, what is set, and dots with
+// their members; `remove` with dots; `completed` or `abandoned` with a site and its total in queue 0.
+fn operation(rt: &impl Abort, alloc: Global, text: &str) -> Operation {
+    let mut words = text.split_whitespace();
+    match word(rt, &mut words) {
+        "add" => added(rt, alloc, &mut words),
+        "write" => written(rt, alloc, &mut words),
+        "remove" => Operation::Remove {
+            dots: dots(rt, alloc, &mut words),
+        },
+        "completed" => counted(rt, Calls::Completed, &mut words),
+        _ => counted(rt, Calls::Abandoned, &mut words),
+    }
+}
+
+// The operations of texts with semicolons between them.
+pub(crate) fn operations(rt: &impl Abort, alloc: Global, texts: &str) -> Vec<Operation> {
     let mut operations = Vec::new(alloc);
-    for name in names {
-        let operation = operation(rt, alloc, text_of_name(rt, texts, name));
+    for text in texts.split("; ") {
+        let operation = operation(rt, alloc, text);
         operations.push(operation).expect(rt, "memory");
     }
     operations

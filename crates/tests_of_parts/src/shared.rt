@@ -1,13 +1,13 @@
-//! What these tests share: values, which are written as numbers and texts, and sets and totals made of them.
+//! What these tests share: bytes in hexadecimal, values that are written as numbers and texts, and sets and totals made of them.
 ghost use Rattle.std.specs.Prelude.{◌≢◌, None};
 ghost use Rattle.member_orset.specs.Members.{HasField};
 
-use Change::{Assert, Kill};
 use dots::{Dot, Interface, Member, Penalty, SiteId, Stamp};
 use lww_registers::{Fields, Register};
-use member_orset::{JoinFault, MemberSet};
+use member_orset::MemberSet;
 use site_totals::{CallTotals, Totals};
 use std::alloc::Global;
+use std::io::Print;
 use std::process::Abort;
 
 // A dot, as its site and its count.
@@ -26,13 +26,19 @@ pub(crate) const SIP_1: InterfaceText = "SIP/1";
 
 pub(crate) const SIP_2: InterfaceText = "SIP/2";
 
-// A change of a set.
-#[derive(Clone, Copy)]
-pub(crate) enum Change {
-    // A dot of a member is asserted, with a penalty that site 0 has set: at which time, and the penalty.
-    Assert(DotParts, InterfaceText, u64, u32),
-    // A dot is killed.
-    Kill(DotParts),
+// The first frame of site 0, in version 1, after it added SIP/1 to queue 0 with defaults.
+pub(crate) const ADDED: &str = "0000005e5144010000000000000000010000000100000000000000000100000000\
+    00000001000000010000000000000000010000055349502f310700000000000000\
+    0100000000000000000000000001000000000000000000000100000000000000";
+
+// The bytes that hexadecimal digits spell.
+pub(crate) fn bytes(rt: &impl Abort, alloc: Global, digits: &str) -> Vec<u8> {
+    hex::decode(alloc, digits).expect(rt, "digits")
+}
+
+// Prints a word on a line of its own.
+pub(crate) fn print(rt: &(impl Abort + Print), word: &str) {
+    assert!(*rt; println!(rt; "{word}").is_ok());
 }
 
 pub(crate) fn site(rt: &impl Abort, number: u16) -> SiteId {
@@ -41,13 +47,6 @@ pub(crate) fn site(rt: &impl Abort, number: u16) -> SiteId {
 
 pub(crate) fn dot(rt: &impl Abort, numbers: DotParts) -> Dot {
     Dot::new(site(rt, numbers.0), numbers.1).expect(rt, "a dot")
-}
-
-pub(crate) fn member(rt: &impl Abort, member_text: InterfaceText) -> Member {
-    Member {
-        queue: 0,
-        interface: Interface::new(member_text.as_bytes()).expect(rt, "an interface"),
-    }
 }
 
 // A penalty that site 0 has set at a time.
@@ -60,7 +59,7 @@ fn penalty(rt: &impl Abort, time: u64, number: u32) -> Register<Penalty>
 }
 
 // The fields of a penalty that site 0 has set at a time.
-pub(crate) fn fields(rt: &impl Abort, time: u64, number: u32) -> Fields
+fn fields(rt: &impl Abort, time: u64, number: u32) -> Fields
     ensures { HasField result }
 {
     let mut fields = Fields::none();
@@ -68,36 +67,28 @@ pub(crate) fn fields(rt: &impl Abort, time: u64, number: u32) -> Fields
     fields
 }
 
-pub(crate) fn do_change(
+// Asserts a dot in a set, live with this member and a penalty that site 0 has set at a time.
+pub(crate) fn put(
     rt: &impl Abort,
     set: &mut MemberSet,
-    change: Change,
-) -> Result<(), JoinFault> {
-    match change {
-        Assert(of, by, time, number) => {
-            let member = member(rt, by);
-            let fields = fields(rt, time, number);
-            let given = set.assert(dot(rt, of), &member, &fields);
-            drop(member);
-            drop(fields);
-            given
-        }
-        Kill(of) => set.kill(dot(rt, of)),
-    }
+    of: DotParts,
+    by: InterfaceText,
+    time: u64,
+    number: u32,
+) {
+    let member = Member {
+        queue: 0,
+        interface: Interface::new(by.as_bytes()).expect(rt, "an interface"),
+    };
+    let fields = fields(rt, time, number);
+    let given = set.assert(dot(rt, of), &member, &fields);
+    drop(member);
+    drop(fields);
+    given.expect(rt, "a dot");
 }
 
-// Does changes, of which none is refused.
-pub(crate) fn do_changes(rt: &impl Abort, set: &mut MemberSet, changes: &[Change]) {
-    for change in changes {
-        do_change(rt, set, *change).expect(rt, "a change");
-    }
-}
-
-// A set after these changes.
-pub(crate) fn set_of(rt: &impl Abort, alloc: Global, changes: &[Change]) -> MemberSet {
-    let mut set = MemberSet::new(alloc);
-    do_changes(rt, &mut set, changes);
-    set
+pub(crate) fn kill(rt: &impl Abort, set: &mut MemberSet, of: DotParts) {
+    set.kill(dot(rt, of)).expect(rt, "room");
 }
 
 // The totals of the calls that one site has completed in queue 0.

@@ -1,33 +1,6 @@
-//! What the steps of sites do and show, as the definitions say, with each of their outcomes.
-use crate::model_lines::{Names, assert_lines};
-
-// The greatest count, time and number of a frame is 1,099,511,627,776.
-const NAMES: Names = Names {
-    operations: &[
-        ("LAST_ADD", "add 1.1099511627776 0/SIP/1 1099511627776.1 7"),
-        (
-            "LAST_RING",
-            "write 1099511627776.1 ring no 1.1099511627776@0/SIP/1",
-        ),
-        ("LAST_COUNT", "add 0.1099511627776 0/SIP/1 1.0 0"),
-        ("LAST_TIME", "add 0.1 0/SIP/1 1099511627776.0 0"),
-        ("ONE_FEWER_COMPLETED", "count 0 completed 999999999"),
-        ("GREATEST_ABANDONED", "count 0 abandoned 1000000000"),
-        ("ODD_2_65537", "remove_odd 2 65537"),
-        ("ODD_2_65536", "remove_odd 2 65536"),
-        ("ADD_2_2", "add 2.2 0/SIP/1 1.5 0"),
-        ("ODD_3_65537", "remove_odd 3 65537"),
-        ("REMOVE_3_2", "remove 3.2"),
-        ("ODD_3_65536", "remove_odd 3 65536"),
-        ("ADD_1_2", "add 1.2 0/SIP/2 1.5 0"),
-        ("ADD_1_131074", "add 1.131074 0/SIP/2 1.5 0"),
-        ("ADD_1_131075", "add 1.131075 0/SIP/1 1.5 0"),
-        ("ODD_1_65537", "remove_odd 1 65537"),
-        ("MANY_16385", "write_many 1.1 penalty 3 16385"),
-        ("MANY_16384", "write_many 1.1 penalty 3 16384"),
-    ],
-    reports: &[],
-};
+//! What the steps of sites do and show, as the definitions say, with each of their outcomes. The greatest count, time and number of a frame
+//! is 1,099,511,627,776.
+use crate::model_lines::assert_lines;
 
 const LINES: &str = "\
 # A concurrent add outlives a remove.
@@ -236,7 +209,7 @@ queues sales
 0 cut: frame 3
 0 whole: frame 4
 1 take 3: taken
-1 dots 0/SIP/1: [0.1]
+1 dot 0/SIP/1: 0.1
 1 take 0: taken
 1 take 4: taken
 1 row 0/SIP/1: 3 false '' '' '' true
@@ -256,7 +229,7 @@ queues sales
 1 take 0: taken
 1 take 2: taken
 1 row 0/SIP/1: 2 false '' '' '' true
-1 dots 0/SIP/1: [0.2]
+1 dot 0/SIP/1: 0.2
 
 # A write of a newer add replaces the older add.
 queues sales
@@ -271,14 +244,14 @@ queues sales
 1 take 0: taken
 1 take 3: taken
 1 row 0/SIP/1: 3 false '' '' '' true
-1 dots 0/SIP/1: [0.2]
+1 dot 0/SIP/1: 0.2
 1 take 2: taken
 1 row 0/SIP/1: 3 false '' '' '' true
-1 dots 0/SIP/1: [0.2]
+1 dot 0/SIP/1: 0.2
 
 # A field of the last time is written no more.
 queues sales
-frame LAST_ADD
+frame add 1.1099511627776 0/SIP/1 1099511627776.1 7
 0 take 0: taken
 0 row 0/SIP/1: 7 false '' '' '' true
 0 penalty sales SIP/1 1: refused Exhausted
@@ -287,13 +260,13 @@ frame LAST_ADD
 0 row 0/SIP/1: none
 0 add sales SIP/1 0: done
 0 row 0/SIP/1: 0 false '' '' '' true
-0 dots 0/SIP/1: [0.1]
+0 dot 0/SIP/1: 0.1
 0 stamp: 1.0
 
 # An add of the last time leaves ring in use to be written, and then the last time is its own.
 queues sales
-frame LAST_ADD
-frame LAST_RING
+frame add 1.1099511627776 0/SIP/1 1099511627776.1 7
+frame write 1099511627776.1 ring no 1.1099511627776@0/SIP/1
 0 take 0: taken
 0 ring sales SIP/1 no: done
 0 stamp: 1.0
@@ -330,7 +303,7 @@ queues sales
 
 # A site without a count adds no more.
 queues sales
-knows LAST_COUNT
+0 knows add 0.1099511627776 0/SIP/1 1.0 0
 0 add sales SIP/2 0: refused Exhausted
 0 add sales SIP/1 0: refused AlreadyThere
 0 remove sales SIP/1: done
@@ -339,7 +312,7 @@ knows LAST_COUNT
 
 # A site without a time adds no more.
 queues sales
-knows LAST_TIME
+0 knows add 0.1 0/SIP/1 1099511627776.0 0
 0 add sales SIP/2 0: refused Exhausted
 0 add sales SIP/1 0: refused AlreadyThere
 0 remove sales SIP/1: done
@@ -348,7 +321,7 @@ knows LAST_TIME
 
 # A total at its limit counts no more.
 queues sales
-knows ONE_FEWER_COMPLETED GREATEST_ABANDONED
+0 knows completed 0 999999999; abandoned 0 1000000000
 0 abandoned sales: refused TotalFull
 0 completed sales: done
 0 completed sales: refused TotalFull
@@ -356,7 +329,7 @@ knows ONE_FEWER_COMPLETED GREATEST_ABANDONED
 
 # A site without a number makes no frame.
 queues sales
-number 1099511627775
+0 number 1099511627775
 0 cut: nothing
 0 add sales SIP/1 0: done
 0 cut: frame 1099511627776
@@ -368,119 +341,100 @@ number 1099511627775
 
 #[test]
 fn steps_do_and_show_what_the_definitions_say(rt: HostRuntime) {
-    assert_lines(&rt, rt.alloc(), &NAMES, LINES);
+    assert_lines(&rt, rt.alloc(), LINES);
 }
 
-// What stands at the limits is a test a story, since each takes seconds.
+// A story at the limits takes seconds.
 
 #[test]
-fn a_site_takes_as_many_runs_as_it_may_have(rt: HostRuntime) {
-    const STORY: &str = "\
+fn a_site_takes_as_many_runs_and_dots_as_it_may_have(rt: HostRuntime) {
+    const STORIES: &str = "\
 # A site takes no more runs than it may have.
 queues sales
-frame ODD_2_65537
-frame ODD_2_65536
+frame remove 2.1*65537
+frame remove 2.1*65536
 0 take 0: runs full
 0 take 1: taken
 0 add sales SIP/1 0: refused MembersFull
 0 completed sales: done
+
+# A site takes no more dots than it may see.
+queues sales
+frame remove 2.1*65537; write 1.1 penalty 3 1.1*16385@0/SIP/1
+frame write 1.1 penalty 3 1.1*16384@0/SIP/1
+# Its runs are too many too, but the dots are reported first.
+0 take 0: cells full
+0 take 1: taken
+0 completed sales: done
 ";
-    assert_lines(&rt, rt.alloc(), &NAMES, STORY);
+    assert_lines(&rt, rt.alloc(), STORIES);
 }
 
 #[test]
-fn a_full_site_changes_no_members(rt: HostRuntime) {
-    const STORY: &str = "\
+fn a_full_site_writes_and_counts_no_more(rt: HostRuntime) {
+    const STORIES: &str = "\
 # A full site adds removes and pauses no more.
 queues sales
-knows ADD_2_2 LAST_ADD ODD_3_65537
+0 knows add 2.2 0/SIP/1 1.5 0; add 1.1099511627776 0/SIP/1 1099511627776.1 7; remove 3.1*65537
 0 add b SIP/2 0: refused NoSuchQueue
 0 add sales SIP/1 0: refused AlreadyThere
 0 remove sales SIP/2: refused NotThere
 0 add sales SIP/2 0: refused MembersFull
 0 remove sales SIP/1: refused MembersFull
 0 pause sales SIP/1 yes -: refused MembersFull
-";
-    assert_lines(&rt, rt.alloc(), &NAMES, STORY);
-}
 
-#[test]
-fn a_full_site_writes_and_counts_no_more(rt: HostRuntime) {
-    const STORY: &str = "\
 # A full site writes and counts no more.
 queues sales
-knows ADD_2_2 LAST_ADD LAST_RING ODD_3_65537
+0 knows add 2.2 0/SIP/1 1.5 0; add 1.1099511627776 0/SIP/1 1099511627776.1 7; \
+write 1099511627776.1 ring no 1.1099511627776@0/SIP/1; remove 3.1*65537
 # Its time is the last too, but a full site is reported first.
 0 penalty - SIP/1 1: refused MembersFull
 0 ring - SIP/1 yes: refused MembersFull
 0 completed sales: refused MembersFull
 0 abandoned sales: refused MembersFull
 ";
-    assert_lines(&rt, rt.alloc(), &NAMES, STORY);
+    assert_lines(&rt, rt.alloc(), STORIES);
 }
 
 #[test]
 fn a_full_buffer_is_cut_before_an_add(rt: HostRuntime) {
-    const STORY: &str = "\
+    const STORIES: &str = "\
 # A full buffer is cut before an add.
 queues sales
-knows REMOVE_3_2 LAST_COUNT ODD_3_65536
-buffer ODD_3_65536
+0 knows remove 3.2; add 0.1099511627776 0/SIP/1 1.0 0; remove 3.1*65536
+0 buffer remove 3.1*65536
 # Its count is the last too, but a full buffer is reported first.
 0 add sales SIP/2 0: refused MembersFull
 0 cut: frame 1
 0 add sales SIP/2 0: refused Exhausted
-";
-    assert_lines(&rt, rt.alloc(), &NAMES, STORY);
-}
 
-#[test]
-fn an_operation_has_as_many_runs_as_a_site(rt: HostRuntime) {
-    const STORY: &str = "\
-# An operation has no more runs than a site.
-queues sales
-knows ADD_1_2 ADD_1_131074 ADD_1_131075 ODD_1_65537
-buffer ADD_1_2 ADD_1_131074 ADD_1_131075 ODD_1_65537
-0 penalty - SIP/1 1: refused MembersFull
-
-# An operation has as many runs as a site.
-queues sales
-knows ADD_1_2 ADD_1_131074 ADD_1_131075 ODD_1_65537
-buffer ADD_1_2 ADD_1_131074 ADD_1_131075 ODD_1_65537
-0 penalty - SIP/2 1: done
-";
-    assert_lines(&rt, rt.alloc(), &NAMES, STORY);
-}
-
-#[test]
-fn a_site_takes_as_many_dots_as_it_may_see(rt: HostRuntime) {
-    const STORY: &str = "\
-# A site takes no more dots than it may see.
-queues sales
-frame ODD_2_65537 MANY_16385
-frame MANY_16384
-# Its runs are too many too, but the dots are reported first.
-0 take 0: cells full
-0 take 1: taken
-0 completed sales: done
-";
-    assert_lines(&rt, rt.alloc(), &NAMES, STORY);
-}
-
-#[test]
-fn dots_are_seen_up_to_their_limit(rt: HostRuntime) {
-    const STORY: &str = "\
 # A buffer that sees as many dots as it may is cut before an add.
 queues sales
-buffer MANY_16384
+0 buffer write 1.1 penalty 3 1.1*16384@0/SIP/1
 0 add sales SIP/2 0: refused MembersFull
 0 cut: frame 1
 0 add sales SIP/2 0: done
 
 # A site that sees too many dots counts no more.
 queues sales
-knows MANY_16385
+0 knows write 1.1 penalty 3 1.1*16385@0/SIP/1
 0 completed sales: refused MembersFull
 ";
-    assert_lines(&rt, rt.alloc(), &NAMES, STORY);
+    assert_lines(&rt, rt.alloc(), STORIES);
+}
+
+#[test]
+fn an_operation_has_as_many_runs_as_a_site(rt: HostRuntime) {
+    const STORIES: &str = "\
+# An operation has no more runs than a site.
+queues sales
+0 knows add 1.2 0/SIP/2 1.5 0; add 1.131074 0/SIP/2 1.5 0; add 1.131075 0/SIP/1 1.5 0; \
+remove 1.1*65537
+0 buffer add 1.2 0/SIP/2 1.5 0; add 1.131074 0/SIP/2 1.5 0; add 1.131075 0/SIP/1 1.5 0; \
+remove 1.1*65537
+0 penalty - SIP/1 1: refused MembersFull
+# It has as many.
+0 penalty - SIP/2 1: done
+";
+    assert_lines(&rt, rt.alloc(), STORIES);
 }

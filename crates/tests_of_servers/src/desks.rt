@@ -1,4 +1,4 @@
-//! Desks for sessions over a site's desk.
+//! Desks for sessions over a site's desk, and the ear for its bell.
 ghost use Rattle.std.specs.Prelude.{◌≡◌};
 ghost use Rattle.site_journal.specs.Journals.{IsOfSite};
 
@@ -7,7 +7,7 @@ use dots::SiteId;
 use pass_desk::{Ear, PassDesk, RingingDesk};
 use replica::Refusal;
 use serve::{Desk, DeskDown};
-use site_desk::{Pass, SiteBell, SiteDesk, SiteLedger, close};
+use site_desk::{SiteBell, SiteDesk, SiteLedger, close};
 use site_journal::{Bell, Journaled};
 use status_report::{Answer, Ask};
 use std::alloc::Global;
@@ -16,101 +16,6 @@ use std::process::Abort;
 use std::sync::Wait;
 use std::sync::ledger::Blank;
 use std::time::{Clock, Duration, Instant};
-
-// The journal of new site 0, which holds at most `limit` steps.
-fn journal(rt: &impl Abort, alloc: Global, limit: u32) -> Journaled
-    ensures begun { result.count ≡ 0 }
-    ensures site { IsOfSite result.base.site result.base.names result }
-{
-    let replica = replica(rt, alloc, 0, &["sales"]);
-    match Journaled::new(alloc, replica, limit.clamp(1, 1_000_000)) {
-        Ok(journal) => journal,
-        Err(_) => rt.panic("memory"),
-    }
-}
-
-// Asks a number of times, and gets a report each time.
-fn assert_answers<L: SiteLedger, R: Abort + Wait>(
-    rt: &R,
-    alloc: Global,
-    desk: &mut PassDesk<'_, L>,
-    times: u32,
-) {
-    for _ in 0..times {
-        let answered = desk.ask(rt, status(alloc));
-        assert!(*rt; matches!(answered, Ok(Answer::Report(_))));
-        drop(answered);
-    }
-}
-
-// The journal of a desk that is closed with its one pass.
-fn closed<L: SiteLedger>(
-    rt: &impl Abort,
-    alloc: Global,
-    desk: SiteDesk<L>,
-    pass: Pass<L>,
-) -> Journaled {
-    let mut passes = Vec::new(alloc);
-    passes.push(pass).expect(rt, "memory");
-    close(desk, passes).ok().expect(rt, "a journal")
-}
-
-// Asks a number of times, and then drops the steps if their payload is more than a number of bytes. Returns whether they were
-// dropped, and the journal.
-fn asked<L: SiteLedger, R: Abort + Wait>(
-    rt: &R,
-    alloc: Global,
-    blank: Blank,
-    journal: Journaled,
-    times: u32,
-    bytes: u64,
-) -> (bool, Journaled)
-    requires name { blank.name ≡ L.name }
-    requires ledger { blank.parts ≡ L.parts }
-    requires one { blank.parts ≡ 1 }
-    requires begun { journal.count ≡ 0 }
-    requires site { IsOfSite L.site L.names journal }
-    requires limit { journal.limit ≡ L.limit }
-    requires base { journal.base ≡ L.base }
-{
-    let made = SiteDesk::<L>::new(alloc, blank, journal, 1).ok();
-    let (desk, mut passes) = made.expect(rt, "memory");
-    let pass = passes.pop().expect(rt, "a pass");
-    drop(passes);
-    let mut asked = PassDesk::new(&desk, pass);
-    assert_answers(rt, alloc, &mut asked, times);
-    let pass = asked.into_pass();
-    let dropped = desk.checkpoint_above(rt, bytes).expect(rt, "memory");
-    (dropped, closed(rt, alloc, desk, pass))
-}
-
-// Asks a number of times at a site whose journal holds at most `limit` steps. Asserts whether steps with a payload of more than a
-// number of bytes are dropped then, and how many were dropped in all.
-fn assert_asked<R: Abort + Wait>(
-    rt: &R,
-    alloc: Global,
-    limit: u32,
-    times: u32,
-    bytes: u64,
-    drops: bool,
-    start: u64,
-) {
-    let journal = journal(rt, alloc, limit);
-    let (dropped, journal) = asked::<Brand, R>(rt, alloc, Blank::new(1), journal, times, bytes);
-    assert!(*rt; dropped == drops);
-    assert!(*rt; journal.start() == start && journal.len() == u64::from(times));
-    drop(journal);
-}
-
-#[test]
-fn steps_are_dropped_of_a_journal_that_is_full_or_keeps_too_much(rt: HostRuntime) {
-    let alloc = rt.alloc();
-    assert_asked(&rt, alloc, 2, 5, u64::MAX, false, 4);
-    assert_asked(&rt, alloc, 3, 5, u64::MAX, false, 3);
-    // The report of an empty queue has 203 bytes.
-    assert_asked(&rt, alloc, 10, 1, 202, true, 1);
-    assert_asked(&rt, alloc, 10, 1, 203, false, 0);
-}
 
 // A desk that refuses a number of asks in turn, does one more, and then gives no answer.
 #[derive(Drop)]
@@ -137,6 +42,59 @@ impl<R> Desk<R> for ShortDesk {
     }
 }
 
+// The journal of new site 0, which holds at most two steps.
+fn journal(rt: &impl Abort, alloc: Global) -> Journaled
+    ensures begun { result.count ≡ 0 }
+    ensures site { IsOfSite result.base.site result.base.names result }
+{
+    let replica = replica(rt, alloc);
+    match Journaled::new(alloc, replica, 2) {
+        Ok(journal) => journal,
+        Err(_) => rt.panic("memory"),
+    }
+}
+
+// Asks five times, and gets a report each time. Returns the journal.
+fn asked<L: SiteLedger, R: Abort + Wait>(
+    rt: &R,
+    alloc: Global,
+    blank: Blank,
+    journal: Journaled,
+) -> Journaled
+    requires name { blank.name ≡ L.name }
+    requires ledger { blank.parts ≡ L.parts }
+    requires one { blank.parts ≡ 1 }
+    requires begun { journal.count ≡ 0 }
+    requires site { IsOfSite L.site L.names journal }
+    requires limit { journal.limit ≡ L.limit }
+    requires base { journal.base ≡ L.base }
+{
+    let made = SiteDesk::<L>::new(alloc, blank, journal, 1).ok();
+    let (desk, mut passes) = made.expect(rt, "memory");
+    let pass = passes.pop().expect(rt, "a pass");
+    let mut asking = PassDesk::new(&desk, pass);
+    for _ in 0..5u32 {
+        let answered = asking.ask(rt, status(alloc));
+        assert!(*rt; matches!(answered, Ok(Answer::Report(_))));
+        drop(answered);
+    }
+    passes.push(asking.into_pass()).expect(rt, "memory");
+    close(desk, passes).ok().expect(rt, "a journal")
+}
+
+// Asserts that a full journal drops its steps for the next ask.
+fn assert_asked<R: Abort + Wait>(rt: &R, alloc: Global) {
+    let journal = journal(rt, alloc);
+    let journal = asked::<Brand, R>(rt, alloc, Blank::new(1), journal);
+    assert!(*rt; journal.start() == 4 && journal.len() == 5);
+    drop(journal);
+}
+
+#[test]
+fn steps_are_dropped_of_a_journal_that_is_full(rt: HostRuntime) {
+    assert_asked(&rt, rt.alloc());
+}
+
 // Asks twice at a desk that rings. Asserts whether a ring was received, which is once at most.
 fn assert_hears(
     rt: &(impl Abort + Wait + Clock),
@@ -161,7 +119,6 @@ fn a_desk_rings_at_each_change_and_lost_answer_alone(rt: HostRuntime) {
     let alloc = rt.alloc();
     assert_hears(&rt, alloc, 2, 0, false);
     assert_hears(&rt, alloc, 1, 0, true);
-    assert_hears(&rt, alloc, 0, 1, true);
     assert_hears(&rt, alloc, 1, 1, true);
 }
 

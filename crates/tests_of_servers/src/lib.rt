@@ -1,4 +1,4 @@
-//! Tests of feeds and devices, lists of queues, reports, replies, sessions that are served, desks for sessions, worlds of sites, scripts,
+//! Tests of feeds and devices, lists of queues, sessions that are served, desks for sessions, worlds of sites, scripts, logs of events,
 //! sites that are served over TCP, and their links, by their public calls. This crate has no code of its own.
 #![tactic(auto)]
 
@@ -6,8 +6,6 @@
 mod clients;
 #[cfg(test)]
 mod desks;
-#[cfg(test)]
-mod example;
 #[cfg(test)]
 mod feeds;
 #[cfg(test)]
@@ -19,22 +17,14 @@ mod peers;
 #[cfg(test)]
 mod replies;
 #[cfg(test)]
-mod reports;
-#[cfg(test)]
 mod script_runs;
 #[cfg(test)]
 mod served;
-#[cfg(test)]
-mod serving;
-#[cfg(test)]
-mod sessions;
 #[cfg(test)]
 mod shared;
 #[cfg(test)]
 mod sites_served;
 #[cfg(test)]
 mod std_devices;
-#[cfg(test)]
-mod stored_sites_served;
 #[cfg(test)]
 mod worlds;

@@ -1,15 +1,8 @@
 //! Logs of events: what they give, and what they drop.
 use event_log::{EventLog, LogEvent, MOST_LINES};
-use std::alloc::{AllocError, Global};
+use std::alloc::AllocError;
 use std::process::Abort;
 use std::sync::Wait;
-
-// Adds a number of lines.
-fn add(rt: &impl Wait, alloc: Global, events: &EventLog, lines: usize) {
-    for number in 0..lines {
-        events.add(rt, format!(in alloc; "line {number}"));
-    }
-}
 
 // The log gives this line next.
 fn assert_line(rt: &(impl Wait + Abort), events: &EventLog, text: &str) {
@@ -23,37 +16,26 @@ fn assert_line(rt: &(impl Wait + Abort), events: &EventLog, text: &str) {
 }
 
 #[test]
-fn a_full_log_drops_lines_and_says_how_many(rt: HostRuntime) {
-    let alloc = rt.alloc();
-    let events = EventLog::new(alloc).expect(&rt, "memory");
-    add(&rt, alloc, &events, MOST_LINES + 2);
-    assert_line(&rt, &events, "line 0");
-    for _ in 1..MOST_LINES {
-        let event = events.next(&rt);
-        assert!(rt; matches!(&event, LogEvent::Line(_)));
-        drop(event);
-    }
-    let event = events.next(&rt);
-    assert!(rt; matches!(&event, LogEvent::Dropped(2)));
-    drop(event);
-    add(&rt, alloc, &events, 1);
-    events.end(&rt);
-    assert_line(&rt, &events, "line 0");
-    let event = events.next(&rt);
-    assert!(rt; matches!(&event, LogEvent::End));
-    drop(event);
-    drop(events);
-}
-
-#[test]
-fn a_line_without_memory_is_dropped_and_counted(rt: HostRuntime) {
+fn a_log_drops_lines_without_room_or_memory_and_says_how_many(rt: HostRuntime) {
     let alloc = rt.alloc();
     let events = EventLog::new(alloc).expect(&rt, "memory");
     events.add(&rt, Err(AllocError));
-    add(&rt, alloc, &events, 1);
+    for number in 0..MOST_LINES + 2 {
+        events.add(&rt, format!(in alloc; "line {number}"));
+    }
     assert_line(&rt, &events, "line 0");
+    for _ in 2..MOST_LINES {
+        drop(events.next(&rt));
+    }
+    assert_line(&rt, &events, "line 999");
     let event = events.next(&rt);
-    assert!(rt; matches!(&event, LogEvent::Dropped(1)));
+    assert!(rt; matches!(&event, LogEvent::Dropped(3)));
+    drop(event);
+    events.add(&rt, format!(in alloc; "line {MOST_LINES}"));
+    events.end(&rt);
+    assert_line(&rt, &events, "line 1000");
+    let event = events.next(&rt);
+    assert!(rt; matches!(&event, LogEvent::End));
     drop(event);
     drop(events);
 }

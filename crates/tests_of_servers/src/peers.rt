@@ -1,8 +1,6 @@
-//! A site's links: what waits for a peer, what is sent and received over devices in memory, why a site ends, and two sites that are linked
-//! over TCP.
+//! A site's links: what waits for a peer, why a site ends, numbers of bytes and of milliseconds, and two sites that are linked over TCP.
+//! tools/site_link_tests.py shows links that fall, peers that are refused, and sites that end.
 mod ends;
 mod linked_sites;
 mod queues;
-mod served_sites;
-mod streams;
 mod times;

@@ -1,66 +1,35 @@
 //! Stores that are read from the bytes of their files.
-use crate::shared::{ADD, SECOND_ADD, base_row, put, replace};
-use site_store::{close, create, keep_rows};
+use crate::shared::{ADD, COMMAND, SECOND_ADD, created, put, replaced};
+use site_store::{close, keep_rows};
 use sqlite::{Connection, FileStore, Files, Options};
 use sqlite_disk::Memory;
 use std::alloc::Global;
 use std::process::Abort;
 use store_copy::{CopyFault, StoreBytes, rows_of_bytes};
 
-type Store = Connection<FileStore<Memory>>;
-
-// A database without a table, in new files.
-fn database(rt: &impl Abort, alloc: Global) -> Store {
+// A store in new files, whose base has the position 0.
+fn store_in_files(rt: &impl Abort, alloc: Global) -> Connection<FileStore<Memory>> {
     let files = Files {
         log: Memory::new(alloc),
         db: Memory::new(alloc),
     };
-    match Connection::open_files_with(alloc, files, Options::new(1), true) {
+    let mut store = match Connection::open_files_with(alloc, files, Options::new(1), true) {
         Ok(conn) => conn,
         Err((_, left)) => {
             drop(left);
             panic!(*rt; "a database")
         }
-    }
-}
-
-// A store whose base has the position 0.
-fn new_store(rt: &impl Abort, alloc: Global) -> Store {
-    let mut store = database(rt, alloc);
-    let base = base_row(rt, alloc);
-    assert!(*rt; create(&mut store, 0, &base) == Ok(true));
-    drop(base);
+    };
+    assert!(*rt; created(rt, alloc, &mut store, 0));
     store
 }
 
-// A copy of some bytes.
-fn copied(rt: &impl Abort, alloc: Global, bytes: &[u8]) -> Vec<u8> {
-    let mut copy = Vec::new(alloc);
-    copy.extend_from_slice(bytes).expect(rt, "memory");
-    copy
-}
-
 // The bytes of two files.
-fn bytes_of(rt: &impl Abort, alloc: Global, files: &Files<Memory>) -> StoreBytes {
-    let file = copied(rt, alloc, files.db.bytes());
-    let log = copied(rt, alloc, files.log.bytes());
+fn bytes_of(rt: &impl Abort, alloc: Global, files: Files<Memory>) -> StoreBytes {
+    let file = Vec::from_slice(alloc, files.db.bytes()).expect(rt, "memory");
+    let log = Vec::from_slice(alloc, files.log.bytes()).expect(rt, "memory");
+    drop(files);
     StoreBytes { file, log }
-}
-
-// The bytes of a store as its process leaves them at a crash.
-fn crashed(rt: &impl Abort, alloc: Global, store: Store) -> StoreBytes {
-    let files = store.into_store().close();
-    let bytes = bytes_of(rt, alloc, &files);
-    drop(files);
-    bytes
-}
-
-// The bytes of a store that is closed: all are in its file.
-fn closed(rt: &impl Abort, alloc: Global, store: Store) -> StoreBytes {
-    let files = close(store).ok().expect(rt, "a closed store");
-    let bytes = bytes_of(rt, alloc, &files);
-    drop(files);
-    bytes
 }
 
 // Asserts the position of the first row that bytes hold, and the kinds of all rows.
@@ -74,137 +43,39 @@ fn assert_rows(rt: &impl Abort, alloc: Global, bytes: &StoreBytes, first: u64, k
 }
 
 // Asserts that bytes hold no rows, for this cause.
-fn assert_fault(rt: &impl Abort, alloc: Global, bytes: &StoreBytes, fault: CopyFault) {
-    match rows_of_bytes(alloc, bytes) {
-        Ok(rows) => {
-            drop(rows);
-            panic!(*rt; "a fault")
-        }
-        Err(met) => assert!(*rt; met == fault),
-    }
+fn assert_fault(rt: &impl Abort, alloc: Global, bytes: &StoreBytes, wanted: CopyFault) {
+    let fault = rows_of_bytes(alloc, bytes).err();
+    assert!(*rt; fault == Some(wanted));
 }
 
 #[test]
-fn a_store_is_read_from_its_file_and_its_log(rt: HostRuntime) {
+fn a_crashed_store_is_read_up_to_the_end_of_its_log(rt: HostRuntime) {
     let alloc = rt.alloc();
-    let mut store = new_store(&rt, alloc);
-    put(&rt, alloc, &mut store, 1, ADD);
-    put(&rt, alloc, &mut store, 2, SECOND_ADD);
-    let mut bytes = crashed(&rt, alloc, store);
-    assert!(rt; !bytes.log.is_empty());
+    let mut store = store_in_files(&rt, alloc);
+    put(&rt, alloc, &mut store, 1, COMMAND, ADD);
+    put(&rt, alloc, &mut store, 2, COMMAND, SECOND_ADD);
+    let files = store.into_store().close();
+    let mut bytes = bytes_of(&rt, alloc, files);
     assert_rows(&rt, alloc, &bytes, 0, &[1, 2, 2]);
-    assert_rows(&rt, alloc, &bytes, 0, &[1, 2, 2]);
-    bytes.log.clear();
-    assert_fault(&rt, alloc, &bytes, CopyFault::NoStore);
-    drop(bytes);
-}
-
-#[test]
-fn a_store_is_read_from_its_file_alone(rt: HostRuntime) {
-    let alloc = rt.alloc();
-    let mut store = new_store(&rt, alloc);
-    put(&rt, alloc, &mut store, 1, ADD);
-    let mut bytes = closed(&rt, alloc, store);
-    assert_rows(&rt, alloc, &bytes, 0, &[1, 2]);
-    bytes.log.clear();
-    assert_rows(&rt, alloc, &bytes, 0, &[1, 2]);
-    drop(bytes);
-}
-
-#[test]
-fn kept_rows_are_read_before_the_steps(rt: HostRuntime) {
-    let alloc = rt.alloc();
-    let mut store = new_store(&rt, alloc);
-    assert!(rt; keep_rows(&mut store) == Ok(()));
-    put(&rt, alloc, &mut store, 1, ADD);
-    replace(&rt, alloc, &mut store, 2);
-    put(&rt, alloc, &mut store, 3, SECOND_ADD);
-    let bytes = crashed(&rt, alloc, store);
-    assert_rows(&rt, alloc, &bytes, 0, &[1, 2, 1, 2]);
-    drop(bytes);
-}
-
-#[test]
-fn a_store_that_keeps_no_rows_has_those_since_its_base(rt: HostRuntime) {
-    let alloc = rt.alloc();
-    let mut store = new_store(&rt, alloc);
-    put(&rt, alloc, &mut store, 1, ADD);
-    replace(&rt, alloc, &mut store, 2);
-    put(&rt, alloc, &mut store, 3, SECOND_ADD);
-    let bytes = closed(&rt, alloc, store);
-    assert_rows(&rt, alloc, &bytes, 2, &[1, 2]);
-    drop(bytes);
-}
-
-#[test]
-fn a_log_that_is_cut_off_has_the_commits_before(rt: HostRuntime) {
-    let alloc = rt.alloc();
-    let mut store = new_store(&rt, alloc);
-    put(&rt, alloc, &mut store, 1, ADD);
-    put(&rt, alloc, &mut store, 2, SECOND_ADD);
-    let mut bytes = crashed(&rt, alloc, store);
     // The log ends in room for a frame; the cut is in the one before.
     let short = bytes.log.len().saturating_sub(6_000);
     bytes.log.truncate(short);
     assert_rows(&rt, alloc, &bytes, 0, &[1, 2]);
-    drop(bytes);
-}
-
-#[test]
-fn a_missing_row_is_found(rt: HostRuntime) {
-    let alloc = rt.alloc();
-    let mut store = new_store(&rt, alloc);
-    put(&rt, alloc, &mut store, 1, ADD);
-    put(&rt, alloc, &mut store, 2, SECOND_ADD);
-    assert!(rt;
-        store
-            .execute("DELETE FROM step WHERE position = 1", &[])
-            .is_ok()
-    );
-    let bytes = crashed(&rt, alloc, store);
-    assert_fault(&rt, alloc, &bytes, CopyFault::Gap);
-    drop(bytes);
-}
-
-#[test]
-fn other_files_are_no_stores(rt: HostRuntime) {
-    let alloc = rt.alloc();
-    for some in [
-        b"".as_slice(),
-        b"S".as_slice(),
-        b"no database at all".as_slice(),
-    ] {
-        let file = copied(&rt, alloc, some);
-        let log = Vec::new(alloc);
-        let bytes = StoreBytes { file, log };
-        assert_fault(&rt, alloc, &bytes, CopyFault::NoStore);
-        drop(bytes);
-    }
-    let blank = closed(&rt, alloc, database(&rt, alloc));
-    assert_fault(&rt, alloc, &blank, CopyFault::NoStore);
-    drop(blank);
-    let mut other = database(&rt, alloc);
-    assert!(rt;
-        other
-            .execute("CREATE TABLE note (id INTEGER PRIMARY KEY)", &[])
-            .is_ok()
-    );
-    let bytes = closed(&rt, alloc, other);
+    bytes.log.clear();
     assert_fault(&rt, alloc, &bytes, CopyFault::NoStore);
     drop(bytes);
 }
 
-// The bytes of a closed store of two rows.
-fn two_rows(rt: &impl Abort, alloc: Global) -> StoreBytes {
-    let mut store = new_store(rt, alloc);
-    put(rt, alloc, &mut store, 1, ADD);
-    closed(rt, alloc, store)
-}
-
 #[test]
-fn a_damaged_page_is_found(rt: HostRuntime) {
+fn damage_of_a_closed_store_with_kept_rows_is_found(rt: HostRuntime) {
     let alloc = rt.alloc();
-    let mut bytes = two_rows(&rt, alloc);
+    let mut store = store_in_files(&rt, alloc);
+    assert!(rt; keep_rows(&mut store) == Ok(()));
+    put(&rt, alloc, &mut store, 1, COMMAND, ADD);
+    assert!(rt; replaced(&rt, alloc, &mut store, 2));
+    put(&rt, alloc, &mut store, 3, COMMAND, SECOND_ADD);
+    let files = close(store).ok().expect(&rt, "a closed store");
+    let mut bytes = bytes_of(&rt, alloc, files);
     for at in [2usize, 100, 4_095, 4_096, 8_000] {
         if let Some(byte) = bytes.file.get_mut(at) {
             *byte ^= 1;
@@ -214,14 +85,7 @@ fn a_damaged_page_is_found(rt: HostRuntime) {
             *byte ^= 1;
         }
     }
-    assert_rows(&rt, alloc, &bytes, 0, &[1, 2]);
-    drop(bytes);
-}
-
-#[test]
-fn a_file_that_is_cut_off_is_damaged(rt: HostRuntime) {
-    let alloc = rt.alloc();
-    let mut bytes = two_rows(&rt, alloc);
+    assert_rows(&rt, alloc, &bytes, 0, &[1, 2, 1, 2]);
     for len in [5_000usize, 4_096, 50] {
         bytes.file.truncate(len);
         assert_fault(&rt, alloc, &bytes, CopyFault::Damaged);

@@ -1,9 +1,8 @@
 //! A site with a store that is launched with two tasks.
 ghost use Rattle.std.specs.Prelude.{◌≡◌};
 
-use crate::asks::{add, copied};
 use crate::memory_store::MemoryStore;
-use crate::shared::new_site_0;
+use crate::shared::{add, new_site_0};
 use site_desk::Pass;
 use status_report::Ask;
 use std::alloc::Global;
@@ -65,19 +64,23 @@ impl<S, R: Wait> StoredTask<S, R> for AskOnce {
     }
 }
 
-// What site 0 ends with whose two tasks add a member each, over a store that takes a number of commits.
+// What site 0 ends with whose two tasks ask for the same add, over a store that takes a number of commits.
 fn launched<R: Abort + Threads + Wait + Sync>(
     rt: &R,
     alloc: Global,
     commits: u32,
 ) -> StoredSiteOutput<MemoryStore, bool> {
     let mut tasks = Vec::new(alloc);
-    let first = add(rt, b"SIP/1");
+    let first = Ask::Command(add(rt));
     tasks.push(AskOnce { asked: first }).expect(rt, "memory");
-    let second = add(rt, b"SIP/2");
+    let second = Ask::Command(add(rt));
     tasks.push(AskOnce { asked: second }).expect(rt, "memory");
-    let replica = new_site_0(rt, alloc);
-    let store = MemoryStore::new(alloc, copied(rt, &replica), commits, true);
+    let base = new_site_0(rt, alloc);
+    let replica = match base.copy() {
+        Ok(replica) => replica,
+        Err(_) => rt.panic("memory"),
+    };
+    let store = MemoryStore::new(base, commits);
     let resumed = ResumedSite::new(replica, store);
     assert!(*rt; resumed.site().number() == 0 && resumed.list().len() == 1);
     let mut sites = Vec::new(alloc);
@@ -94,21 +97,18 @@ fn launched<R: Abort + Threads + Wait + Sync>(
 }
 
 #[test]
-fn both_tasks_of_a_launched_site_are_saved(rt: HostRuntime) {
-    let end = launched(&rt, rt.alloc(), 2);
+fn a_launched_site_saves_what_its_tasks_do_or_gives_the_fault(rt: HostRuntime) {
+    let alloc = rt.alloc();
+    let end = launched(&rt, alloc, 2);
     assert!(rt; end.outputs.as_slice() == [true, true].as_slice());
     assert!(rt; end.journal.count() == 2 && end.fault.is_none());
     let store = end.store.as_ref().expect(&rt, "a store");
-    assert!(rt; store.steps.len() == 2);
+    assert!(rt; store.steps == 2);
     drop(end);
-}
-
-#[test]
-fn a_launched_site_gives_the_fault_of_its_store(rt: HostRuntime) {
-    let end = launched(&rt, rt.alloc(), 0);
-    assert!(rt; end.outputs.as_slice() == [false, false].as_slice());
-    assert!(rt; end.fault == Some(CommitFault::Full));
-    let store = end.store.as_ref().expect(&rt, "a store");
-    assert!(rt; store.steps.is_empty());
-    drop(end);
+    let failed = launched(&rt, alloc, 0);
+    assert!(rt; failed.outputs.as_slice() == [false, false].as_slice());
+    assert!(rt; failed.fault == Some(CommitFault::Full));
+    let store = failed.store.as_ref().expect(&rt, "a store");
+    assert!(rt; store.steps == 0);
+    drop(failed);
 }

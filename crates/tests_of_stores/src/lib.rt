@@ -1,16 +1,12 @@
-//! Tests of stores, by their public calls: rows, bases, restored sites, stores over a database in memory, and desks with a store in
+//! Tests of stores, by their public calls: rows, bases, restored sites, stores over a database in memory, and a desk with a store in
 //! memory that fails at a commit. This crate has no code of its own. Its bytes were worked out by hand, by docs/store.md and
 //! docs/frames.md.
 #![tactic(auto)]
 
 #[cfg(test)]
-mod asks;
-#[cfg(test)]
 mod bases;
 #[cfg(test)]
 mod copies;
-#[cfg(test)]
-mod database_starts;
 #[cfg(test)]
 mod databases;
 #[cfg(test)]
@@ -18,17 +14,11 @@ mod desk_trials;
 #[cfg(test)]
 mod desks;
 #[cfg(test)]
-mod kept_rows;
-#[cfg(test)]
 mod launches;
 #[cfg(test)]
 mod listings;
 #[cfg(test)]
 mod memory_store;
-#[cfg(test)]
-mod restored;
-#[cfg(test)]
-mod rows;
 #[cfg(test)]
 mod shared;
 #[cfg(test)]

@@ -1,26 +1,20 @@
-//! What journals, desks and sites are asked in tests.
-use dots::{Bytes, Interface, Label, Penalty, QueueName, Text80};
-use replica::{Command, QueueList};
+//! New sites of the queue `sales`, and what desks and sites are asked in tests.
+use dots::{Bytes, Interface, Label, Penalty, QueueName, SiteId, Text80};
+use replica::{Command, QueueList, Replica};
 use status_report::{Ask, StatusRequest};
 use std::alloc::Global;
 use std::process::Abort;
 
-// The queue of all sites, if a test names no other.
-pub(crate) const SALES: &[u8] = b"sales";
-
-pub(crate) fn sales(rt: &impl Abort) -> QueueName {
-    QueueName::new(SALES).expect(rt, "a name")
-}
-
-// The list of the one queue of this name.
-pub(crate) fn list_of(rt: &impl Abort, alloc: Global, queue: &[u8]) -> QueueList {
-    let name = QueueName::new(queue).expect(rt, "a name");
+// The list of the queue `sales`.
+pub(crate) fn list(rt: &impl Abort, alloc: Global) -> QueueList {
+    let name = QueueName::new(b"sales").expect(rt, "a name");
     QueueList::new(alloc, &[name]).expect(rt, "a list")
 }
 
-// The list of the queue `sales`.
-pub(crate) fn list(rt: &impl Abort, alloc: Global) -> QueueList {
-    list_of(rt, alloc, SALES)
+// A site that knows nothing.
+pub(crate) fn replica(rt: &impl Abort, alloc: Global, site: u16) -> Replica {
+    let site = SiteId::new(site).expect(rt, "a site");
+    Replica::new(alloc, site, list(rt, alloc))
 }
 
 // The request of the status of all queues, without an ActionID.
@@ -39,7 +33,7 @@ pub(crate) fn status(alloc: Global) -> Ask {
 // Adds a member to the queue `sales`.
 pub(crate) fn add(rt: &impl Abort, interface: &[u8], penalty: u32) -> Ask {
     Ask::Command(Command::Add {
-        queue: sales(rt),
+        queue: QueueName::new(b"sales").expect(rt, "a name"),
         interface: Interface::new(interface).expect(rt, "an interface"),
         penalty: Penalty::new(penalty).expect(rt, "a penalty"),
         paused: false,

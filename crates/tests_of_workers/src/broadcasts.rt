@@ -1,13 +1,13 @@
-//! Which outlet is given which frame of a broadcast: frames of one byte, which is the number of their step.
-ghost use Rattle.std.specs.Prelude.{◌≡◌, ◌≤◌, ℕ, [], IfOk, vec_capacity, vec_len};
-ghost use Rattle.dots.specs.declared.limits.TheConstants.{MOST_COUNT};
+//! Which outlet is given which frame of a pump, and when: frames of one byte, which is the number of their step.
+ghost use Rattle.std.specs.Prelude.{◌≤◌, IfOk};
 
-use dots::{MOST_COUNT, Memory, SharedBytes};
+use dots::{Memory, SharedBytes};
 use site_journal::{Bell, DeskFault, Port, Receipt, StepDeed};
-use site_pumps::{Deed, LinkPlan, NoReceipts, Outlet, broadcast, broadcast_whole, pump_out};
+use site_pumps::{Deed, LinkPlan, NoReceipts, Outlet, broadcast, pump_out};
 use std::alloc::Global;
 use std::process::Abort;
 use std::sync::Wait;
+use std::sync::atomic::{AtomicU64, Ordering};
 
 // A port whose frames have one byte each.
 #[derive(Drop)]
@@ -90,174 +90,150 @@ impl<R> Port<R> for BytePort {
     }
 }
 
-// An outlet that keeps the first byte of each frame, in a list that doesn't grow. When the list is full it is out of memory.
+// An outlet that appends the byte of each frame, 1 to 9, as a digit to a number. It is out of memory once that is at least `most`.
 #[derive(Drop)]
-struct ListOutlet {
-    given: Vec<u8>,
-    is_down: bool,
+struct DigitOutlet<'a> {
+    given: &'a AtomicU64,
+    most: u64,
 }
 
-impl ListOutlet {
-    fn new(rt: &impl Abort, alloc: Global, room: usize, is_down: bool) -> ListOutlet {
-        ListOutlet {
-            given: Vec::with_capacity(alloc, room).expect(rt, "memory"),
-            is_down,
-        }
-    }
-}
-
-impl<R> Outlet<R> for ListOutlet {
+impl<'a, R> Outlet<R> for DigitOutlet<'a> {
     ghost given = { λ old item new. Unit {0} };
 
     fn send(&mut self, _rt: &R, item: &SharedBytes) -> Result<(), Memory> {
-        if self.is_down {
-            return Ok(());
-        }
-        if self.given.len() == self.given.capacity() {
+        let given = self.given.load(Ordering::SeqCst);
+        if given >= self.most {
             return Err(Memory);
         }
-        let first = item.as_slice().first().copied().unwrap_or(0);
-        self.given.push_reserved(first);
+        let digit = item.as_slice().first().copied().unwrap_or(0);
+        let given = given.wrapping_mul(10).wrapping_add(u64::from(digit));
+        self.given.store(given, Ordering::SeqCst);
         Ok(())
     }
 }
 
-// A bell that rings a number of times.
+// A bell that rings once for each number of `wanted` but the last, and then ends. Before each ring, and before the end, it asserts that the
+// first outlet was given the next of these numbers.
 #[derive(Drop)]
-struct CountedBell {
-    left: u32,
-    rings: u64,
+struct WatchingBell<'a> {
+    given: &'a AtomicU64,
+    wanted: &'a [u64],
+    rings: u8,
     has_ended: bool,
-    ghost few: { rings ≤ MOST_COUNT },
 }
 
-impl<R> Bell<R> for CountedBell {
+impl<'a, R: Abort> Bell<R> for WatchingBell<'a> {
     ghost rings = { λ bell. bell.rings };
 
     ghost ended = { λ bell. bell.has_ended };
 
-    fn wait(&mut self, _rt: &R) -> bool {
-        if self.has_ended || self.left == 0 || self.rings >= MOST_COUNT {
+    fn wait(&mut self, rt: &R) -> bool {
+        let place = usize::from(self.rings);
+        if self.has_ended {
+            return false;
+        }
+        let wanted = self.wanted.get(place).copied().expect(rt, "a number");
+        assert!(*rt; self.given.load(Ordering::SeqCst) == wanted);
+        if place + 1 >= self.wanted.len() || self.rings == u8::MAX {
             self.has_ended = true;
             return false;
         }
-        self.left -= 1;
         self.rings += 1;
         true
     }
 }
 
-// Broadcasts at two rings, with room for `room` frames at the second of two outlets; `is_down`: whether that is down. Asserts how that ends,
+// What the first outlet of a broadcast is given before the first ring, before the second, and before the end.
+const CUTS: &[u64] = &[0, 1, 12];
+
+// Broadcasts at two rings to two outlets, of which the second is out of memory once its number is at least `most`. Asserts how that ends,
 // and which frames each outlet was given.
 fn assert_given<R: Abort + Wait>(
     rt: &R,
     alloc: Global,
-    room: usize,
-    is_down: bool,
+    most: u64,
     end: Result<(), DeskFault>,
-    first: &[u8],
-    second: &[u8],
+    first: u64,
+    second: u64,
 ) {
+    let (one, other) = (AtomicU64::new(0), AtomicU64::new(0));
     let mut port = BytePort {
         alloc,
-        steps: 0,
+        steps: 1,
         fault: None,
     };
     let mut outlets = [
-        ListOutlet::new(rt, alloc, 10, false),
-        ListOutlet::new(rt, alloc, room, is_down),
+        DigitOutlet {
+            given: &one,
+            most: u64::MAX,
+        },
+        DigitOutlet {
+            given: &other,
+            most,
+        },
     ];
-    let mut bell = CountedBell {
-        left: 2,
+    let mut bell = WatchingBell {
+        given: &one,
+        wanted: CUTS,
         rings: 0,
         has_ended: false,
     };
     let mut sink = NoReceipts;
     assert!(*rt; broadcast(rt, &mut port, &mut outlets, &mut bell, &mut sink) == end);
-    assert!(*rt; outlets[0].given.as_slice() == first);
-    assert!(*rt; outlets[1].given.as_slice() == second);
+    assert!(*rt; one.load(Ordering::SeqCst) == first);
+    assert!(*rt; other.load(Ordering::SeqCst) == second);
+    drop(bell);
     drop(outlets);
     drop(port);
 }
 
-// Two rings give three cuts and a whole.
+// Two rings give three cuts and a whole. Where the second outlet has no memory for frame 2, the first is given that, and no further frame
+// is made.
 #[test]
-fn each_outlet_is_given_each_frame(rt: HostRuntime) {
-    assert_given(
-        &rt,
-        rt.alloc(),
-        10,
-        false,
-        Ok(()),
-        &[0, 1, 2, 3],
-        &[0, 1, 2, 3],
-    );
+fn frames_are_broadcast_before_the_next_ring_until_an_outlet_is_out_of_memory(rt: HostRuntime) {
+    assert_given(&rt, rt.alloc(), u64::MAX, Ok(()), 1_234, 1_234);
+    assert_given(&rt, rt.alloc(), 1, Err(DeskFault::Memory), 12, 1);
 }
 
-#[test]
-fn an_outlet_that_is_down_drops_its_frames_and_the_other_goes_on(rt: HostRuntime) {
-    assert_given(&rt, rt.alloc(), 10, true, Ok(()), &[0, 1, 2, 3], &[]);
-}
+// What each outlet of a pump with a plan is given before its three rings, and before the end.
+const PLANNED: &[u64] = &[0, 0, 21, 2_133];
 
-// The first outlet is given the frame for which the second has no memory, and no further frame is made.
+// Three rings give four cuts and a whole. The plan holds the first frame, sends the second one and then the first, sends the third one
+// twice, and loses the fourth one.
 #[test]
-fn an_outlet_that_is_out_of_memory_stops_the_broadcast(rt: HostRuntime) {
-    let memory = Err(DeskFault::Memory);
-    assert_given(&rt, rt.alloc(), 0, false, memory, &[0], &[]);
-    assert_given(&rt, rt.alloc(), 1, false, memory, &[0, 1], &[0]);
-    assert_given(&rt, rt.alloc(), 3, false, memory, &[0, 1, 2, 3], &[0, 1, 2]);
-}
-
-#[test]
-fn a_whole_is_given_to_each_outlet(rt: HostRuntime) {
+fn a_plan_is_followed_at_each_outlet_before_the_next_ring(rt: HostRuntime) {
     let alloc = rt.alloc();
+    let (one, other) = (AtomicU64::new(0), AtomicU64::new(0));
+    let deeds = [Deed::Hold, Deed::Deliver, Deed::Twice, Deed::Lose];
+    let plan = LinkPlan::new(Vec::from_slice(alloc, &deeds).expect(&rt, "memory"));
     let mut port = BytePort {
         alloc,
-        steps: 7,
+        steps: 1,
         fault: None,
     };
     let mut outlets = [
-        ListOutlet::new(&rt, alloc, 10, false),
-        ListOutlet::new(&rt, alloc, 1, false),
+        DigitOutlet {
+            given: &one,
+            most: u64::MAX,
+        },
+        DigitOutlet {
+            given: &other,
+            most: u64::MAX,
+        },
     ];
-    let mut sink = NoReceipts;
-    assert!(rt; broadcast_whole(&rt, &mut port, &mut outlets, &mut sink).is_ok());
-    let again = broadcast_whole(&rt, &mut port, &mut outlets, &mut sink);
-    assert!(rt; again == Err(DeskFault::Memory));
-    assert!(rt; outlets[0].given.as_slice() == [7, 8].as_slice());
-    assert!(rt; outlets[1].given.as_slice() == [7].as_slice());
-    drop(outlets);
-    drop(port);
-}
-
-// Two rings give three cuts and a whole. The plan holds the first frame, sends the second one twice, and loses the third one.
-#[test]
-fn a_plan_is_followed_at_each_outlet(rt: HostRuntime) {
-    let alloc = rt.alloc();
-    let mut port = BytePort {
-        alloc,
-        steps: 0,
-        fault: None,
-    };
-    let mut outlets = [
-        ListOutlet::new(&rt, alloc, 10, false),
-        ListOutlet::new(&rt, alloc, 10, true),
-    ];
-    let mut bell = CountedBell {
-        left: 2,
+    let mut bell = WatchingBell {
+        given: &one,
+        wanted: PLANNED,
         rings: 0,
         has_ended: false,
     };
-    let deeds = Vec::from_slice(alloc, &[Deed::Hold, Deed::Twice, Deed::Lose]).expect(
-        &rt, "memory",
-    );
-    let plan = LinkPlan::new(deeds);
     let pumped = pump_out(&rt, alloc, &mut port, &mut outlets, &mut bell, &plan);
-    assert!(&rt; pumped.fault.is_none() && pumped.receipts.len() == 4);
-    assert!(&rt; outlets[0].given.as_slice() == [1, 1, 0, 3].as_slice());
-    assert!(&rt; outlets[1].given.is_empty());
+    assert!(rt; pumped.fault.is_none() && pumped.receipts.len() == 5);
     drop(pumped);
-    drop(plan);
+    assert!(rt; one.load(Ordering::SeqCst) == 21_335);
+    assert!(rt; other.load(Ordering::SeqCst) == 21_335);
+    drop(bell);
     drop(outlets);
     drop(port);
+    drop(plan);
 }

@@ -1,123 +1,19 @@
-//! What is asserted of desks with two passes: the passes, their receipts, and the calls of two threads.
-use crate::asks::{add, status};
-use crate::desk_steps::{
-    answered, asked, assert_closed, assert_settled, called, kept_open, reports,
-};
+//! A desk with two passes, which two threads call at once.
+ghost use Rattle.std.specs.Prelude.{◌≡◌};
+ghost use Rattle.site_journal.specs.Journals.{IsOfSite};
+
+use crate::asks::{replica, status};
 use crate::gates::{MANY_TURNS, MeetingGate, comes};
-use site_desk::{Pass, SiteDesk, SiteLedger};
-use site_journal::{DeskFault, Receipt};
+use site_desk::{Pass, SiteDesk, SiteLedger, close};
+use site_journal::Journaled;
 use std::alloc::Global;
+use std::marker::Brand;
 use std::process::Abort;
 use std::sync::Wait;
 use std::sync::atomic::{AtomicU64, Ordering};
+use std::sync::ledger::Blank;
 use std::thread;
 use std::thread::Threads;
-
-// A desk is closed with all of its passes, and not with one of them.
-pub(crate) fn assert_closes<L: SiteLedger>(
-    rt: &impl Abort,
-    alloc: Global,
-    desk: SiteDesk<L>,
-    first: Pass<L>,
-    second: Pass<L>,
-) {
-    assert!(*rt; first.ordinal() == 0 && second.ordinal() == 1 && second.seen() == 0);
-    let (desk, first) = kept_open(rt, alloc, desk, first);
-    assert_closed(rt, alloc, desk, first, second, 0, 0);
-}
-
-// Asks for a status, and puts the receipt behind others.
-fn ask_behind<L: SiteLedger, R: Abort + Wait>(
-    rt: &R,
-    alloc: Global,
-    desk: &SiteDesk<L>,
-    pass: &mut Pass<L>,
-    receipts: &mut Vec<Receipt>,
-) {
-    let receipt = asked(rt, alloc, desk, pass);
-    receipts.push(receipt).expect(rt, "memory");
-}
-
-// Lets two passes ask in turn, 10,000 times each. Their receipts.
-fn asked_in_turn<L: SiteLedger, R: Abort + Wait>(
-    rt: &R,
-    alloc: Global,
-    desk: &SiteDesk<L>,
-    first: &mut Pass<L>,
-    second: &mut Pass<L>,
-) -> [Vec<Receipt>; 2] {
-    let mut one = Vec::new(alloc);
-    let mut other = Vec::new(alloc);
-    for _ in 0..10_000 {
-        ask_behind(rt, alloc, desk, first, &mut one);
-        ask_behind(rt, alloc, desk, second, &mut other);
-    }
-    [one, other]
-}
-
-// Asserts that an ask is refused since no step may be added.
-fn assert_full<L: SiteLedger, R: Abort + Wait>(
-    rt: &R,
-    alloc: Global,
-    desk: &SiteDesk<L>,
-    pass: &mut Pass<L>,
-) {
-    let fault = answered(rt, desk, pass, status(alloc)).err();
-    assert!(*rt; fault == Some(DeskFault::JournalFull));
-}
-
-// Two passes ask in turn until no step may be added to a journal of 20,000.
-pub(crate) fn assert_fills<L: SiteLedger, R: Abort + Wait>(
-    rt: &R,
-    alloc: Global,
-    desk: SiteDesk<L>,
-    first: Pass<L>,
-    second: Pass<L>,
-) {
-    let mut first = first;
-    let mut second = second;
-    let receipts = asked_in_turn(rt, alloc, &desk, &mut first, &mut second);
-    assert!(*rt; first.seen() == 19_999 && second.seen() == 20_000);
-    assert_full(rt, alloc, &desk, &mut first);
-    assert_settled(rt, alloc, desk, first, second, receipts, 20_000);
-}
-
-// Adds an interface, which the next report shows. The receipts of both.
-fn added<L: SiteLedger, R: Abort + Wait>(
-    rt: &R,
-    alloc: Global,
-    desk: &SiteDesk<L>,
-    pass: &mut Pass<L>,
-    interface: &[u8],
-) -> Vec<Receipt> {
-    let mut receipts = Vec::new(alloc);
-    let done = called(rt, desk, pass, add(rt, interface, 0));
-    receipts.push(done).expect(rt, "memory");
-    let report = asked(rt, alloc, desk, pass);
-    assert!(*rt; reports(&report, interface));
-    receipts.push(report).expect(rt, "memory");
-    receipts
-}
-
-// Two threads, each of which finds the interface that it has added.
-pub(crate) fn assert_adds<L: SiteLedger + Send + Sync, R: Abort + Threads + Wait + Sync>(
-    rt: &R,
-    alloc: Global,
-    desk: SiteDesk<L>,
-    first: Pass<L>,
-    second: Pass<L>,
-) {
-    let mut first = first;
-    let mut second = second;
-    let (lent, one, other) = (&desk, &mut first, &mut second);
-    let (one, other) = thread::join(
-        rt,
-        move || added(rt, alloc, lent, one, b"SIP/1"),
-        move || added(rt, alloc, lent, other, b"SIP/2"),
-    );
-    assert!(*rt; one.len() == 2 && other.len() == 2);
-    assert_settled(rt, alloc, desk, first, second, [one, other], 4);
-}
 
 // A call whose gate looks for the end of the other thread's. Whether it saw that.
 fn looked<L: SiteLedger, R: Abort + Wait>(
@@ -125,39 +21,58 @@ fn looked<L: SiteLedger, R: Abort + Wait>(
     alloc: Global,
     desk: &SiteDesk<L>,
     pass: &mut Pass<L>,
-    called: &AtomicU64,
-    done: &AtomicU64,
+    count: &AtomicU64,
 ) -> bool {
     let mut gate = MeetingGate {
-        mine: called,
-        theirs: done,
+        count,
+        wanted: 2,
         turns: 1_000_000,
         saw: false,
     };
     let ask = status(alloc);
     let receipt = desk.call_gated(rt, pass, &ask, &mut gate, 0);
-    assert!(*rt; receipt.is_ok() && called.load(Ordering::SeqCst) == 1);
+    assert!(*rt; receipt.is_ok());
     drop(receipt);
     drop(ask);
     gate.saw
 }
 
-// Calls once the other thread's gate was called.
+// Calls once the other thread's gate was called, and then raises the count.
 fn call_behind<L: SiteLedger, R: Abort + Wait>(
     rt: &R,
     alloc: Global,
     desk: &SiteDesk<L>,
     pass: &mut Pass<L>,
-    called: &AtomicU64,
-    done: &AtomicU64,
+    count: &AtomicU64,
 ) {
-    assert!(*rt; comes(called, 1, MANY_TURNS));
-    drop(asked(rt, alloc, desk, pass));
-    done.store(1, Ordering::SeqCst);
+    assert!(*rt; comes(count, 1, MANY_TURNS));
+    let ask = status(alloc);
+    let receipt = desk.call(rt, pass, &ask);
+    assert!(*rt; receipt.is_ok());
+    drop(receipt);
+    drop(ask);
+    count.fetch_add(1, Ordering::SeqCst);
 }
 
-// No call of another thread is done while a gate is called.
-pub(crate) fn assert_excludes<L: SiteLedger + Send + Sync, R: Abort + Threads + Wait + Sync>(
+// Closes a desk with both of its passes, and asserts that its journal has had two steps, which were dropped.
+fn assert_closed<L: SiteLedger>(
+    rt: &impl Abort,
+    alloc: Global,
+    desk: SiteDesk<L>,
+    first: Pass<L>,
+    second: Pass<L>,
+) {
+    let mut passes = Vec::new(alloc);
+    passes.push(first).expect(rt, "memory");
+    passes.push(second).expect(rt, "memory");
+    let journal = close(desk, passes).ok().expect(rt, "a journal");
+    assert!(*rt; journal.count() == 2 && journal.start() == 2);
+    drop(journal);
+}
+
+// No call of another thread is done while a gate is called. Then the journal is full, and keeps two reports of 203 bytes, until its steps
+// are dropped.
+fn assert_excludes<L: SiteLedger + Send + Sync, R: Abort + Threads + Wait + Sync>(
     rt: &R,
     alloc: Global,
     desk: SiteDesk<L>,
@@ -166,14 +81,66 @@ pub(crate) fn assert_excludes<L: SiteLedger + Send + Sync, R: Abort + Threads + 
 ) {
     let mut first = first;
     let mut second = second;
-    let (called, done) = (AtomicU64::new(0), AtomicU64::new(0));
+    let count = AtomicU64::new(0);
     let (lent, one, other) = (&desk, &mut first, &mut second);
-    let (called, done) = (&called, &done);
+    let count = &count;
     let (saw, _) = thread::join(
         rt,
-        move || looked(rt, alloc, lent, one, called, done),
-        move || call_behind(rt, alloc, lent, other, called, done),
+        move || looked(rt, alloc, lent, one, count),
+        move || call_behind(rt, alloc, lent, other, count),
     );
-    assert!(*rt; !saw && done.load(Ordering::SeqCst) == 1);
-    assert_closed(rt, alloc, desk, first, second, 2, 0);
+    assert!(*rt; !saw && count.load(Ordering::SeqCst) == 2);
+    assert!(*rt; first.ordinal() == 0 && first.seen() == 1);
+    assert!(*rt; second.ordinal() == 1 && second.seen() == 2);
+    assert!(*rt; desk.checkpoint_above(rt, 406) == Ok(false));
+    assert!(*rt; desk.checkpoint_if_full(rt) == Ok(true));
+    assert!(*rt; desk.checkpoint_if_full(rt) == Ok(false));
+    assert!(*rt; desk.checkpoint(rt).is_ok());
+    assert_closed(rt, alloc, desk, first, second);
+}
+
+// Makes a desk with two passes of a journal, and asserts what they do.
+fn assert_holds<L: SiteLedger + Send + Sync, R: Abort + Threads + Wait + Sync>(
+    rt: &R,
+    alloc: Global,
+    blank: Blank,
+    journal: Journaled,
+)
+    requires name { blank.name ≡ L.name }
+    requires ledger { blank.parts ≡ L.parts }
+    requires two { blank.parts ≡ 2 }
+    requires begun { journal.count ≡ 0 }
+    requires site { IsOfSite L.site L.names journal }
+    requires limit { journal.limit ≡ L.limit }
+    requires base { journal.base ≡ L.base }
+{
+    let made = SiteDesk::<L>::new(alloc, blank, journal, 2).ok();
+    let (desk, mut passes) = made.expect(rt, "memory");
+    let second = passes.pop().expect(rt, "a pass");
+    let first = passes.pop().expect(rt, "a pass");
+    drop(passes);
+    assert_excludes(rt, alloc, desk, first, second);
+}
+
+// The journal of a site, with a limit of two steps.
+fn journal(rt: &impl Abort, alloc: Global) -> Journaled
+    ensures begun { result.count ≡ 0 }
+    ensures site { IsOfSite result.base.site result.base.names result }
+{
+    let replica = replica(rt, alloc, 0);
+    match Journaled::new(alloc, replica, 2) {
+        Ok(journal) => journal,
+        Err(_) => rt.panic("memory"),
+    }
+}
+
+// Asserts what the two passes of a new desk do.
+fn assert_of<R: Abort + Threads + Wait + Sync>(rt: &R, alloc: Global) {
+    let journal = journal(rt, alloc);
+    assert_holds::<Brand, R>(rt, alloc, Blank::new(2), journal);
+}
+
+#[test]
+fn a_gate_is_called_under_the_lock_and_full_journals_are_emptied(rt: HostRuntime) {
+    assert_of(&rt, rt.alloc());
 }

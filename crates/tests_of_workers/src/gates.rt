@@ -5,7 +5,7 @@ use site_desk::Gate;
 use std::sync::atomic::{AtomicU64, Ordering};
 use std::thread;
 
-// As many turns as a test waits for what should come.
+// How many turns a test waits at most for a number that must come.
 pub(crate) const MANY_TURNS: u32 = 10_000_000;
 
 // Whether a number is at least `wanted` within `turns` turns.
@@ -19,11 +19,11 @@ pub(crate) fn comes(number: &AtomicU64, wanted: u64, turns: u32) -> bool {
     false
 }
 
-// Says at the first ask that it is called, and then looks for at most a number of turns whether the other thread says something.
+// Raises a count at the first ask, and then looks for at most a number of turns whether other threads raise it to `wanted`.
 #[derive(Drop)]
 pub(crate) struct MeetingGate<'a> {
-    pub(crate) mine: &'a AtomicU64,
-    pub(crate) theirs: &'a AtomicU64,
+    pub(crate) count: &'a AtomicU64,
+    pub(crate) wanted: u64,
     pub(crate) turns: u32,
     pub(crate) saw: bool,
 }
@@ -33,8 +33,8 @@ impl<'a> Gate for MeetingGate<'a> {
 
     fn inside(&mut self, turn: u64) {
         if turn == 0 {
-            self.mine.store(1, Ordering::SeqCst);
-            self.saw = comes(self.theirs, 1, self.turns);
+            self.count.fetch_add(1, Ordering::SeqCst);
+            self.saw = comes(self.count, self.wanted, self.turns);
         }
     }
 }

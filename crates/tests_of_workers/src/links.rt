@@ -1,8 +1,8 @@
 //! Links: how many items they hold, what they give back, and when they end; and helpers that send and receive.
 ghost use Rattle.std.specs.Prelude.{◌≡◌, ◌≤◌};
 
-use crate::frames::shared;
 use crate::gates::{MANY_TURNS, comes};
+use dots::SharedBytes;
 use site_links::{Link, LinkReceiver, LinkSender, compare};
 use std::alloc::Global;
 use std::process::Abort;
@@ -10,6 +10,12 @@ use std::sync::Wait;
 use std::sync::atomic::{AtomicU64, Ordering};
 use std::thread;
 use std::thread::Threads;
+
+// A copy of bytes, which its owners share.
+pub(crate) fn shared(rt: &impl Abort, alloc: Global, bytes: &[u8]) -> SharedBytes {
+    let bytes = Vec::from_slice(alloc, bytes).expect(rt, "memory");
+    SharedBytes::new(alloc, bytes).expect(rt, "memory")
+}
 
 // Both ends of a link that holds `capacity` items.
 pub(crate) fn link(rt: &impl Abort, alloc: Global, capacity: usize) -> (LinkSender, LinkReceiver)
@@ -21,7 +27,7 @@ pub(crate) fn link(rt: &impl Abort, alloc: Global, capacity: usize) -> (LinkSend
 }
 
 // Sends an item, which must be taken.
-pub(crate) fn send<R: Abort + Wait>(rt: &R, alloc: Global, sender: &mut LinkSender, item: &[u8])
+fn send<R: Abort + Wait>(rt: &R, alloc: Global, sender: &mut LinkSender, item: &[u8])
     ensures { sender.new.link ≡ sender.old.link }
 {
     let bytes = shared(rt, alloc, item);
@@ -59,106 +65,44 @@ fn bytes_come_back_once_the_receiver_is_gone(rt: HostRuntime) {
     drop(sender);
 }
 
-// Offers an item of one byte. Returns whether the link took it; otherwise the same byte comes back.
-fn takes_offer<R: Abort + Wait>(rt: &R, alloc: Global, sender: &mut LinkSender, byte: u8) -> bool
-    ensures { sender.new.link ≡ sender.old.link }
-{
-    let item = shared(rt, alloc, &[byte]);
-    match sender.offer(rt, item) {
-        Ok(()) => true,
-        Err(back) => {
-            assert!(*rt; back.as_slice() == [byte].as_slice());
-            false
-        }
-    }
-}
-
-#[test]
-fn a_full_link_refuses_an_offer_and_takes_the_next_once_it_has_room(rt: HostRuntime) {
-    let (mut sender, mut receiver) = link(&rt, rt.alloc(), 2);
-    assert!(rt; takes_offer(&rt, rt.alloc(), &mut sender, 1));
-    assert!(rt; takes_offer(&rt, rt.alloc(), &mut sender, 2));
-    assert!(rt; !takes_offer(&rt, rt.alloc(), &mut sender, 3) && !sender.down());
-    receive(&rt, &mut receiver, &[1]);
-    assert!(rt; takes_offer(&rt, rt.alloc(), &mut sender, 4));
-    receive(&rt, &mut receiver, &[2]);
-    receive(&rt, &mut receiver, &[4]);
-    assert!(rt; compare(sender, receiver) == (3, 3));
-}
-
-#[test]
-fn an_offer_comes_back_once_the_receiver_is_gone(rt: HostRuntime) {
-    let (mut sender, receiver) = link(&rt, rt.alloc(), 2);
-    drop(receiver);
-    assert!(rt; !takes_offer(&rt, rt.alloc(), &mut sender, 1) && sender.down());
-    assert!(rt; !takes_offer(&rt, rt.alloc(), &mut sender, 2) && sender.down());
-    drop(sender);
-}
-
-// Sends all numbers below 1,024, and lets the sender go.
-fn send_numbers<R: Abort + Wait>(rt: &R, alloc: Global, sender: LinkSender) {
+// Sends all numbers below 1,026, and stores each before it is sent.
+fn send_numbers<R: Abort + Wait>(rt: &R, alloc: Global, sender: LinkSender, begun: &AtomicU64) {
     let mut sender = sender;
-    for number in 0..1_024u16 {
+    for number in 0..1_026u16 {
+        begun.store(u64::from(number), Ordering::SeqCst);
         send(rt, alloc, &mut sender, &number.to_be_bytes());
     }
     drop(sender);
 }
 
-// Receives all numbers below 1,024, behind which the link ends.
-fn receive_numbers<R: Abort + Wait>(rt: &R, receiver: LinkReceiver) {
+// Receives all numbers below 1,026, some turns after number 1,024 is to be sent, which waits until then. After them the link ends.
+fn receive_late<R: Abort + Wait>(rt: &R, receiver: LinkReceiver, begun: &AtomicU64) {
     let mut receiver = receiver;
-    for number in 0..1_024u16 {
+    assert!(*rt; comes(begun, 1_024, MANY_TURNS));
+    for _ in 0..65_536u32 {
+        thread::yield_now();
+    }
+    assert!(*rt; begun.load(Ordering::SeqCst) == 1_024);
+    for number in 0..1_026u16 {
         receive(rt, &mut receiver, &number.to_be_bytes());
     }
     assert!(*rt; receiver.recv(rt).is_none() && receiver.ended());
     drop(receiver);
 }
 
-#[test]
-fn as_many_items_wait_as_the_link_holds_and_then_it_ends(rt: HostRuntime) {
-    let (sender, receiver) = link(&rt, rt.alloc(), 1_024);
-    send_numbers(&rt, rt.alloc(), sender);
-    receive_numbers(&rt, receiver);
-}
-
-// Sends three items, and stores the number of each before it is sent.
-fn send_three<R: Abort + Wait>(rt: &R, alloc: Global, sender: LinkSender, begun: &AtomicU64) {
-    let mut sender = sender;
-    for item in 0..3u8 {
-        begun.store(u64::from(item), Ordering::SeqCst);
-        send(rt, alloc, &mut sender, &[item]);
-    }
-    drop(sender);
-}
-
-// Receives three items, some turns after the second of them is to be sent, which waits until then.
-fn receive_late<R: Abort + Wait>(rt: &R, receiver: LinkReceiver, begun: &AtomicU64) {
-    let mut receiver = receiver;
-    assert!(*rt; comes(begun, 1, MANY_TURNS));
-    for _ in 0..65_536u32 {
-        thread::yield_now();
-    }
-    assert!(*rt; begun.load(Ordering::SeqCst) == 1);
-    for item in 0..3u8 {
-        receive(rt, &mut receiver, &[item]);
-    }
-    assert!(*rt; receiver.recv(rt).is_none());
-    drop(receiver);
-}
-
-// A link that holds one item isn't down while that is there.
+// The numbers from 0 to 1,023 wait in a link that holds as many items, and then its sender waits.
 fn assert_waits<R: Abort + Threads + Wait + Sync>(rt: &R, alloc: Global) {
-    let (sender, receiver) = link(rt, alloc, 1);
+    let (sender, receiver) = link(rt, alloc, 1_024);
     let begun = AtomicU64::new(0);
     let begun = &begun;
     thread::join(
         rt,
-        move || send_three(rt, alloc, sender, begun),
+        move || send_numbers(rt, alloc, sender, begun),
         move || receive_late(rt, receiver, begun),
     );
 }
 
 #[test]
-fn who_sends_on_a_full_link_waits(rt: HostRuntime) {
+fn as_many_items_wait_as_the_link_holds_and_then_the_sender_waits(rt: HostRuntime) {
     assert_waits(&rt, rt.alloc());
 }

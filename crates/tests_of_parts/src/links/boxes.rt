@@ -24,6 +24,7 @@ fn put(rt: &impl Abort, alloc: Global, peer: &mut PeerBox, frame: &str) {
     drop(bytes);
 }
 
+// A whole takes the place of frames in a box that is opened, or full, or that must send one.
 #[test]
 fn frames_wait_up_to_a_limit(rt: HostRuntime) {
     let alloc = rt.alloc();
@@ -32,27 +33,13 @@ fn frames_wait_up_to_a_limit(rt: HostRuntime) {
     assert_due(&rt, &mut peer, "-");
     peer.open();
     put(&rt, alloc, &mut peer, "lost");
-    assert!(rt; !peer.is_idle());
     assert_due(&rt, &mut peer, "whole");
-    assert_due(&rt, &mut peer, "-");
+    assert!(rt; peer.is_idle());
     put(&rt, alloc, &mut peer, "12345");
     put(&rt, alloc, &mut peer, "6789a");
     assert_due(&rt, &mut peer, "12345");
     put(&rt, alloc, &mut peer, "bcdef");
     put(&rt, alloc, &mut peer, "g");
-    assert_due(&rt, &mut peer, "whole");
-    assert_due(&rt, &mut peer, "-");
-    assert!(rt; peer.is_idle());
-    drop(peer);
-}
-
-#[test]
-fn a_whole_takes_the_place_of_frames(rt: HostRuntime) {
-    let alloc = rt.alloc();
-    let mut peer = PeerBox::new(alloc, 10);
-    peer.require_whole();
-    assert_due(&rt, &mut peer, "-");
-    peer.open();
     assert_due(&rt, &mut peer, "whole");
     put(&rt, alloc, &mut peer, "12345");
     peer.require_whole();

@@ -1,62 +1,39 @@
 //! The roll of sites.
 use crate::links::shared::card;
-use link_hello::Refusal;
+use link_hello::{Card, Refusal};
 use roll::Roll;
 use std::process::Abort;
 
-// Judges the card of a site at site 0, whose card is `d0` started 7 times.
-fn assert_judged(
-    rt: &impl Abort,
-    roll: &mut Roll,
-    (number, first, starts): (u8, u8, u64),
-    refusal: Option<Refusal>,
-) {
+// Judges a card at site 0, whose own card is `d0` started 7 times. Asserts why it is refused; `None` if it is admitted.
+fn assert_judged(rt: &impl Abort, roll: &mut Roll, card_of_peer: &Card, wanted: Option<Refusal>) {
     let own = card(rt, 0, 0xd0, 7);
-    let judged = roll.admit(&own, &card(rt, number, first, starts));
-    assert!(*rt; judged.err() == refusal);
+    assert!(*rt; roll.admit(&own, card_of_peer).err() == wanted);
 }
 
+// A number stays that of its store, its start count never falls, and a start stays that of its process.
 #[test]
 fn a_number_stays_that_of_its_store(rt: HostRuntime) {
     let mut roll = Roll::new();
-    assert_judged(&rt, &mut roll, (1, 0xa0, 3), None);
-    assert_judged(&rt, &mut roll, (1, 0xa0, 2), Some(Refusal::OlderCopy));
-    assert_judged(&rt, &mut roll, (1, 0xa0, 4), None);
-    assert_judged(&rt, &mut roll, (1, 0xa0, 3), Some(Refusal::OlderCopy));
-    assert_judged(&rt, &mut roll, (1, 0xb0, 9), Some(Refusal::TakenNumber));
-    assert_judged(&rt, &mut roll, (63, 0xb0, 9), None);
-    assert_judged(&rt, &mut roll, (64, 0xb0, 9), Some(Refusal::NoSuchSite));
-    assert_judged(&rt, &mut roll, (0, 0xd0, 7), Some(Refusal::Itself));
-    assert_judged(&rt, &mut roll, (0, 0xd0, 6), Some(Refusal::OlderCopy));
-    assert_judged(&rt, &mut roll, (0, 0xd0, 8), Some(Refusal::SameNumber));
-    assert_judged(&rt, &mut roll, (0, 0xb0, 7), Some(Refusal::SameNumber));
-    assert_judged(&rt, &mut roll, (1, 0xa0, 4), None);
-    let own = card(&rt, 0, 0xd0, 7);
+    assert_judged(&rt, &mut roll, &card(&rt, 1, 0xa0, 4), None);
+    let refused = Some(Refusal::OlderCopy);
+    assert_judged(&rt, &mut roll, &card(&rt, 1, 0xa0, 3), refused);
+    let refused = Some(Refusal::TakenNumber);
+    assert_judged(&rt, &mut roll, &card(&rt, 1, 0xb0, 9), refused);
+    assert_judged(&rt, &mut roll, &card(&rt, 63, 0xb0, 9), None);
+    let refused = Some(Refusal::NoSuchSite);
+    assert_judged(&rt, &mut roll, &card(&rt, 64, 0xb0, 9), refused);
+    let refused = Some(Refusal::Itself);
+    assert_judged(&rt, &mut roll, &card(&rt, 0, 0xd0, 7), refused);
+    let refused = Some(Refusal::SameNumber);
+    assert_judged(&rt, &mut roll, &card(&rt, 0, 0xd0, 8), refused);
     let mut other = card(&rt, 1, 0xa0, 4);
-    other.queues[31] ^= 1;
-    assert!(rt; roll.admit(&own, &other).err() == Some(Refusal::OtherQueues));
-    other.number = 64;
-    assert!(rt; roll.admit(&own, &other).err() == Some(Refusal::NoSuchSite));
-}
-
-#[test]
-fn a_start_stays_that_of_its_process(rt: HostRuntime) {
-    let mut roll = Roll::new();
-    let own = card(&rt, 0, 0xd0, 7);
-    let first = card(&rt, 1, 0xa0, 4);
-    let mut other = first;
     other.process[15] ^= 1;
-    assert!(rt; roll.admit(&own, &first).is_ok());
-    assert!(rt; roll.admit(&own, &other).err() == Some(Refusal::SecondCopy));
-    assert!(rt; roll.admit(&own, &first).is_ok());
-    // An earlier start of another process, and a later one, which takes the number over.
-    other.starts = 3;
-    assert!(rt; roll.admit(&own, &other).err() == Some(Refusal::OlderCopy));
+    let refused = Some(Refusal::SecondCopy);
+    assert_judged(&rt, &mut roll, &other, refused);
+    // A later start of another process takes the number over.
     other.starts = 5;
-    assert!(rt; roll.admit(&own, &other).is_ok());
-    assert!(rt; roll.admit(&own, &first).err() == Some(Refusal::OlderCopy));
-    // Another process of this site's own start.
-    let mut copy = own;
-    copy.process[0] ^= 1;
-    assert!(rt; roll.admit(&own, &copy).err() == Some(Refusal::SameNumber));
+    assert_judged(&rt, &mut roll, &other, None);
+    other.queues[31] ^= 1;
+    let refused = Some(Refusal::OtherQueues);
+    assert_judged(&rt, &mut roll, &other, refused);
 }

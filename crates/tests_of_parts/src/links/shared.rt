@@ -1,4 +1,5 @@
 //! What these tests make and assert alike.
+use crate::shared::bytes;
 use link_hello::Card;
 use link_keys::Key;
 use std::alloc::Global;
@@ -6,11 +7,6 @@ use std::process::Abort;
 
 // The digest of the queues `sales` and `support`.
 pub(crate) const QUEUES: &str = "73f9bf545c85c81aa43403020558947f8329b0323c2feeef4052a2aed19b1976";
-
-// The bytes that hexadecimal digits spell.
-pub(crate) fn bytes(rt: &impl Abort, alloc: Global, digits: &str) -> Vec<u8> {
-    hex::decode(alloc, digits).expect(rt, "digits")
-}
 
 // The bytes that some parts spell together, each in hexadecimal.
 pub(crate) fn joined(rt: &impl Abort, alloc: Global, parts: &[&str]) -> Vec<u8> {
@@ -34,9 +30,9 @@ pub(crate) fn key(rt: &impl Abort, digits: &str) -> Key {
     Key::new(bytes32(rt, digits))
 }
 
-// Asserts what bytes are, written in hexadecimal.
-pub(crate) fn assert_bytes(rt: &impl Abort, alloc: Global, some: &[u8], digits: &str) {
-    let want = bytes(rt, alloc, digits);
+// Asserts what bytes are: those that some parts spell together, each in hexadecimal.
+pub(crate) fn assert_bytes(rt: &impl Abort, alloc: Global, some: &[u8], parts: &[&str]) {
+    let want = joined(rt, alloc, parts);
     assert!(*rt; some == want.as_slice());
     drop(want);
 }
