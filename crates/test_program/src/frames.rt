@@ -13,8 +13,7 @@
 //! - `raise`: counts one more completed call for each total: `raised to` and the total, or `refused TotalFull`.
 //!
 //! With `itself` in place of bytes, `join` and the next four take a copy of what is held. Other lines give `no hexadecimal`. A refusal
-//! that changes what is held writes `changed`, one that hands back something else `not back`. After a refused allocation the program
-//! writes `memory` and does the line again.
+//! that changes what is held writes `changed`. After a refused allocation the program writes `memory` and does the line again.
 //!
 //! A frame is written so, its bytes in version 2; what is held has no first line, and rows at its end. A field has the time and site of
 //! its stamp, a text quotation marks, a byte that is no text `\xff`:
@@ -40,31 +39,9 @@ mod words;
 
 use crate::frames::line::give_line;
 use delta::Delta;
-use std::alloc::Global;
-use std::io::{self, BufWriter, ErrorKind, Write};
+use std::io::{self, ErrorKind, Write};
 
-// Writes the output of each line of standard input. `None` if there are words.
-pub(crate) fn run<R: AllocGlobal + Print + Input>(
-    rt: &R,
-    words: &[String],
-) -> io::Result<Option<u8>> {
-    if !words.is_empty() {
-        return Ok(None);
-    }
-    let mut out = BufWriter::new(rt.alloc(), io::writer(rt))?;
-    let mut held = Delta::empty(rt.alloc());
-    let given = give_lines(rt, &mut out, &mut held);
-    drop(held);
-    let given = match given {
-        Ok(()) => out.flush(),
-        Err(error) => Err(error),
-    };
-    drop(out);
-    given?;
-    Ok(Some(0))
-}
-
-// Writes the output of each line of standard input.
+// Writes the output of each line of standard input. If an allocation is refused for a line, writes `memory`, and does the line again.
 fn give_lines<R: AllocGlobal + Input, W: Write>(
     rt: &R,
     out: &mut W,
@@ -72,26 +49,31 @@ fn give_lines<R: AllocGlobal + Input, W: Write>(
 ) -> io::Result<()> {
     for line in rt.lines(rt.alloc()) {
         let line = line?;
-        let given = give_again(rt.alloc(), out, held, line.as_str());
+        let given = match give_line(rt.alloc(), out, held, line.as_str()) {
+            Err(error) if error.kind() == ErrorKind::OutOfMemory => match writeln!(out, "memory") {
+                Ok(()) => give_line(rt.alloc(), out, held, line.as_str()),
+                Err(error) => Err(error),
+            },
+            given => given,
+        };
         drop(line);
         given?;
     }
     Ok(())
 }
 
-// Writes the output of a line. If an allocation is refused for it, writes `memory`, and retries the line.
-fn give_again<W: Write>(
-    alloc: Global,
+// Writes the output of each line of standard input. `false` if there are words.
+pub(crate) fn run<R: AllocGlobal + Input, W: Write>(
+    rt: &R,
     out: &mut W,
-    held: &mut Delta,
-    line: &str,
-) -> io::Result<()> {
-    match give_line(alloc, out, held, line) {
-        Err(error) if error.kind() == ErrorKind::OutOfMemory => {
-            drop(error);
-            writeln!(out, "memory")?;
-            give_line(alloc, out, held, line)
-        }
-        given => given,
+    words: &[String],
+) -> io::Result<bool> {
+    if !words.is_empty() {
+        return Ok(false);
     }
+    let mut held = Delta::empty(rt.alloc());
+    let given = give_lines(rt, out, &mut held);
+    held.discard();
+    given?;
+    Ok(true)
 }

@@ -1,4 +1,4 @@
-//! The program that tests run: it reads cases from standard input, or runs random workloads.
+//! The program that tests run: it does lines or serves a session from standard input, or runs random workloads.
 //!
 //! | Words | What it does |
 //! |---|---|
@@ -7,18 +7,20 @@
 //! | `journal\|desk SITE LIMIT QUEUE..` | does lines at a new site ([`site`]) |
 //! | `journals\|audit\|world SITES STEPS`, `threads RUNS SITES ASKS` | runs random workloads on sites ([`runs`]) |
 //!
-//! Exit status 1: reading, printing or a run failed, or memory ran out. Exit status 2: the command line is wrong; standard error has a
-//! line. A session has further statuses.
+//! Exit status 1: reading, printing or a run failed, or memory ran out; standard error has a line if reading the words or a workload
+//! failed. Exit status 2: the command line is wrong; standard error has a line. A session has further statuses.
 #![tactic(auto)]
 
+mod digits;
 mod frames;
+mod gate;
 mod queues;
 mod runs;
 mod session;
 mod site;
 
 use crate::site::Where;
-use std::io;
+use std::io::{self, BufWriter, Write};
 use std::process::ExitCode;
 use std::rt::Env;
 use std::sync::Wait;
@@ -28,22 +30,25 @@ const USAGE: &str =
     "usage: test_program frames | session [--greeting=TEXT] [--tries=N] [--take=FRAME] PIECE USER SECRET QUEUE.. | \
     journal|desk SITE LIMIT QUEUE.. | journals|audit|world SITES STEPS | threads RUNS SITES ASKS";
 
+// Prints an error, and then ends the program with status 1.
 fn main(rt: HostRuntime) -> ExitCode {
-    ExitCode::from(run(&rt).unwrap_or(1))
+    match run(&rt) {
+        Ok(status) => ExitCode::from(status),
+        Err(error) => {
+            let _ = eprintln!(rt; "test_program: {error}");
+            ExitCode::from(1)
+        }
+    }
 }
 
-// Runs the program, and returns its exit status. `Err`: reading standard input or printing failed, or an allocation was refused.
+// Runs the program, and returns its exit status.
 fn run<R: Env + AllocGlobal + Print + Eprint + Input + Threads + Wait + Sync>(
     rt: &R,
 ) -> io::Result<u8> {
-    let words = match words(rt) {
-        Ok(words) => words,
-        Err(error) if error.kind() == io::ErrorKind::OutOfMemory => {
-            eprintln!(rt; "test_program: out of memory")?;
-            return Ok(1);
-        }
-        Err(error) => return Err(error),
-    };
+    let mut words = Vec::new(rt.alloc());
+    for word in std::env::args(rt)? {
+        words.push(word)?;
+    }
     let status = match words.as_slice() {
         [_, kind, words @ ..] => run_kind(rt, kind.as_str(), words),
         _ => Ok(None),
@@ -58,26 +63,42 @@ fn run<R: Env + AllocGlobal + Print + Eprint + Input + Threads + Wait + Sync>(
     }
 }
 
-// The words of the command line, of which the first is the program's own name.
-fn words<R: Env + AllocGlobal>(rt: &R) -> io::Result<Vec<String>> {
-    let mut words = Vec::new(rt.alloc());
-    for word in std::env::args(rt)? {
-        words.push(word)?;
-    }
-    Ok(words)
-}
-
-// Does what the first word says, by the other words, and returns the exit status. `None` if they are wrong.
-fn run_kind<R: AllocGlobal + Print + Eprint + Input + Threads + Wait + Sync>(
+// Does what the first word says, by the other words, and returns the exit status. `None` if they are wrong. `Err`: a workload failed.
+fn run_kind<R: AllocGlobal + Print + Input + Threads + Wait + Sync>(
     rt: &R,
     kind: &str,
     words: &[String],
 ) -> io::Result<Option<u8>> {
-    match kind {
-        "frames" => frames::run(rt, words),
+    let status = match kind {
         "session" => session::run(rt, words),
-        "journal" => site::run(rt, Where::Journal, words),
-        "desk" => site::run(rt, Where::Desk, words),
-        kind => runs::run(rt, kind, words),
-    }
+        "frames" => run_lines(rt, None, words),
+        "journal" => run_lines(rt, Some(Where::Journal), words),
+        "desk" => run_lines(rt, Some(Where::Desk), words),
+        kind => return runs::run(rt, kind, words),
+    };
+    Ok(status.unwrap_or(Some(1)))
+}
+
+// Does the lines of standard input, at a site or else as lines of frames, writes their output, and returns the exit status. `None` if the
+// words are wrong.
+fn run_lines<R: AllocGlobal + Print + Input + Wait>(
+    rt: &R,
+    at: Option<Where>,
+    words: &[String],
+) -> io::Result<Option<u8>> {
+    let mut out = BufWriter::new(rt.alloc(), io::writer(rt))?;
+    let done = match at {
+        None => frames::run(rt, &mut out, words),
+        Some(at) => site::run(rt, &mut out, at, words),
+    };
+    let status = match done {
+        Ok(true) => match out.flush() {
+            Ok(()) => Ok(Some(0)),
+            Err(error) => Err(error),
+        },
+        Ok(false) => Ok(None),
+        Err(error) => Err(error),
+    };
+    drop(out);
+    status
 }

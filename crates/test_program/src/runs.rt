@@ -17,35 +17,25 @@ ghost use Rattle.std.specs.Prelude.{◌≤◌, IfSome};
 ghost use Rattle.site_journal.specs.declared.journaled.TheConstants.{MOST_STEPS};
 
 mod asks;
+mod errors;
 mod explaining;
 mod numbers;
-mod runs_fault;
-mod site;
 mod threads;
 mod turns;
 
-use crate::runs::explaining::{events_of, replay, steps_of};
-use crate::runs::runs_fault::RunsFault;
+use crate::runs::asks::queue_list;
+use crate::runs::explaining::{explain, steps_of};
 use crate::runs::threads::run_often;
 use crate::runs::turns::work_in_turn;
 use site_journal::MOST_STEPS;
 use std::alloc::Global;
-use std::io;
+use std::io::{self, ErrorKind};
 use std::sync::Wait;
 use std::thread::Threads;
 
 const MOST_SITES: u32 = 8;
 
 const MOST_RUNS: u32 = 1_000_000;
-
-// How many sites there are, and how many steps each does.
-#[derive(Clone, Copy)]
-struct Work {
-    sites: u16,
-    steps: u32,
-    ghost some_steps: { 1 ≤ steps },
-    ghost few_steps: { steps ≤ MOST_STEPS },
-}
 
 // What is counted after the sites have done their steps in turn.
 #[derive(Clone, Copy)]
@@ -55,22 +45,6 @@ enum Counted {
     Events,
     // These events, once they have run in a new world.
     Replayed,
-}
-
-// Runs the workload of this name by these words, and returns the exit status. `None` if they are wrong.
-pub(crate) fn run<R: AllocGlobal + Print + Eprint + Threads + Wait + Sync>(
-    rt: &R,
-    kind: &str,
-    words: &[String],
-) -> io::Result<Option<u8>> {
-    match do_words(rt, kind, words) {
-        Some(Ok(())) => Ok(Some(0)),
-        Some(Err(fault)) => {
-            eprintln!(rt; "test_program: {fault}")?;
-            Ok(Some(1))
-        }
-        None => Ok(None),
-    }
 }
 
 // Parses a number from 1 to `most`.
@@ -84,73 +58,72 @@ fn number(word: &str, most: u32) -> Option<u32>
     }
 }
 
-fn read_work(sites: &str, steps: &str) -> Option<Work> {
-    let sites = number(sites, MOST_SITES)? as u16;
-    let steps = number(steps, MOST_STEPS)?;
-    Some(Work { sites, steps })
+// Has sites do their steps in turn, and counts.
+fn count_in_turn(alloc: Global, sites: u16, steps: u32, counted: Counted) -> io::Result<u64>
+    requires some { 1 ≤ steps }
+    requires most { steps ≤ MOST_STEPS }
+{
+    let list = queue_list(alloc).ok_or(ErrorKind::OutOfMemory)?;
+    let journals = match work_in_turn(alloc, &list, sites, steps) {
+        Ok(journals) => journals,
+        Err(error) => {
+            drop(list);
+            return Err(error);
+        }
+    };
+    let count = match counted {
+        Counted::Steps => Ok(steps_of(&journals)),
+        Counted::Events => explain(alloc, &list, sites, &journals, false),
+        Counted::Replayed => explain(alloc, &list, sites, &journals, true),
+    };
+    drop(journals);
+    drop(list);
+    count
 }
 
-// Runs the workload of this name by these words. `None` if they are wrong.
-fn do_words<R: AllocGlobal + Print + Threads + Wait + Sync>(
+// Runs the workload of this name by these words, and returns what it counts. `None` if they are wrong.
+fn count<R: AllocGlobal + Threads + Wait + Sync>(
     rt: &R,
     kind: &str,
     words: &[String],
-) -> Option<Result<(), RunsFault>> {
-    match (kind, words) {
-        ("journals", [sites, steps]) => Some(do_turns(
-            rt,
-            read_work(sites, steps)?,
-            Counted::Steps,
-        )),
-        ("audit", [sites, steps]) => Some(do_turns(rt, read_work(sites, steps)?, Counted::Events)),
-        ("world", [sites, steps]) => Some(do_turns(
-            rt,
-            read_work(sites, steps)?,
-            Counted::Replayed,
-        )),
-        ("threads", [runs, sites, asks]) => {
+) -> Option<io::Result<u64>> {
+    match words {
+        [sites, steps] => {
+            let counted = match kind {
+                "journals" => Counted::Steps,
+                "audit" => Counted::Events,
+                "world" => Counted::Replayed,
+                _ => return None,
+            };
+            let sites = number(sites, MOST_SITES)? as u16;
+            let steps = number(steps, MOST_STEPS)?;
+            Some(count_in_turn(rt.alloc(), sites, steps, counted))
+        }
+        [runs, sites, asks] if kind == "threads" => {
             let runs = number(runs, MOST_RUNS)?;
-            Some(do_threads(rt, runs, read_work(sites, asks)?))
+            let sites = number(sites, MOST_SITES)? as u16;
+            let asks = number(asks, MOST_STEPS)?;
+            Some(run_often(rt, runs, sites, asks))
         }
         _ => None,
     }
 }
 
-// What is counted of sites that do their steps in turn.
-fn count(alloc: Global, work: Work, counted: Counted) -> Result<u64, RunsFault> {
-    let journals = work_in_turn(alloc, work.sites, work.steps)?;
-    let count = match counted {
-        Counted::Steps => Ok(steps_of(&journals)),
-        Counted::Events => events_of(alloc, &journals),
-        Counted::Replayed => replay(alloc, work.sites, &journals),
-    };
-    drop(journals);
-    count
-}
-
-// Has sites do their steps in turn, and prints what is counted of them.
-fn do_turns<R: AllocGlobal + Print>(rt: &R, work: Work, counted: Counted) -> Result<(), RunsFault> {
-    let count = count(rt.alloc(), work, counted)?;
-    let what = match counted {
-        Counted::Steps => "steps",
-        Counted::Events | Counted::Replayed => "events",
-    };
-    say(rt, count, what)
-}
-
-fn do_threads<R: AllocGlobal + Print + Threads + Wait + Sync>(
+// Runs the workload of this name by these words, prints what it counts, and returns the exit status. `None` if they are wrong.
+pub(crate) fn run<R: AllocGlobal + Print + Threads + Wait + Sync>(
     rt: &R,
-    runs: u32,
-    work: Work,
-) -> Result<(), RunsFault> {
-    run_often(rt, runs, work.sites, work.steps)?;
-    say(rt, u64::from(runs), "runs")
-}
-
-// Prints a number of things.
-fn say<R: Print>(rt: &R, count: u64, what: &str) -> Result<(), RunsFault> {
-    match println!(rt; "{count} {what}") {
-        Ok(()) => Ok(()),
-        Err(_) => Err(RunsFault::Write),
-    }
+    kind: &str,
+    words: &[String],
+) -> io::Result<Option<u8>> {
+    let Some(count) = count(rt, kind, words) else {
+        return Ok(None);
+    };
+    let count = count?;
+    let what = match kind {
+        "journals" => "steps",
+        "threads" => "runs",
+        _ => "events",
+    };
+    println!(rt; "{count} {what}")?;
+    Ok(Some(0))
 }

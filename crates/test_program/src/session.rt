@@ -37,37 +37,6 @@ use std::alloc::Global;
 use std::io;
 use std::io::Read;
 
-// The parts of the command line.
-#[derive(Clone, Copy)]
-struct Arguments<'a> {
-    greeting: Option<&'a str>,
-    tries: Option<&'a str>,
-    frame: Option<&'a str>,
-    piece: usize,
-    user: &'a str,
-    secret: &'a str,
-    queues: &'a [String],
-    ghost some_bytes: { 0 < piece },
-}
-
-// Serves a session by these words, and returns the exit status. `None` if they are wrong.
-pub(crate) fn run<R: AllocGlobal + Print + Input>(
-    rt: &R,
-    words: &[String],
-) -> io::Result<Option<u8>> {
-    let Some(arguments) = read_words(words) else {
-        return Ok(None);
-    };
-    let mut stream = Vec::new(rt.alloc());
-    if let Err(error) = rt.reader().read_to_end(&mut stream) {
-        drop(stream);
-        return Err(error);
-    }
-    let served = serve_session(rt, &stream, arguments);
-    drop(stream);
-    Ok(served.map(status))
-}
-
 // If the first word begins with `front`: the rest of that word, and the other words. Otherwise all words.
 fn optional<'a>(front: &str, words: &'a [String]) -> (Option<&'a str>, &'a [String]) {
     let [first, rest @ ..] = words else {
@@ -79,92 +48,31 @@ fn optional<'a>(front: &str, words: &'a [String]) -> (Option<&'a str>, &'a [Stri
     }
 }
 
-// Parses the words of the command line.
-fn read_words(words: &[String]) -> Option<Arguments<'_>> {
-    let (greeting, words) = optional("--greeting=", words);
-    let (tries, words) = optional("--tries=", words);
-    let (frame, words) = optional("--take=", words);
-    let [piece, user, secret, queues @ ..] = words else {
-        return None;
-    };
-    match piece.parse() {
-        Ok(piece) if piece > 0 => Some(Arguments {
-            greeting,
-            tries,
-            frame,
-            piece,
-            user,
-            secret,
-            queues,
-        }),
-        _ => None,
-    }
-}
-
-// Serves a session by the words of the command line. `None`: a word is no text of a session, no list of queues, or no frame that
-// the site takes.
-fn serve_session<R: AllocGlobal + Print>(
-    rt: &R,
-    stream: &[u8],
-    arguments: Arguments<'_>,
-) -> Option<Result<(), ServeFault>> {
-    let alloc = rt.alloc();
-    let session = session(arguments)?;
-    let Some(replica) = replica(alloc, arguments) else {
-        drop(session);
-        return None;
-    };
-    let mut reader = MemorySource::new(stream, arguments.piece);
-    let mut writer = StdSink::new(io::writer(rt));
-    let mut desk = ReplicaDesk::new(alloc, replica);
-    let served = serve(
-        rt,
-        alloc,
-        &mut reader,
-        &mut writer,
-        session,
-        &mut desk,
-        &mut NoWatch,
-    );
-    drop(desk);
-    drop(writer);
-    drop(reader);
-    Some(served)
-}
-
-fn session(arguments: Arguments<'_>) -> Option<Session> {
-    let session = if arguments.user.is_empty() {
+// The session by the words of the command line. `None`: one is no text of a session, or no number.
+fn session(
+    greeting: Option<&str>,
+    tries: Option<&str>,
+    user: &str,
+    secret: &str,
+) -> Option<Session> {
+    let session = if user.is_empty() {
         Session::trusted()
     } else {
-        Session::new(text(arguments.user)?, text(arguments.secret)?)
+        let user = Text80::new(user.as_bytes()).ok()?;
+        let secret = Text80::new(secret.as_bytes()).ok()?;
+        Session::new(user, secret)
     };
-    let session = match arguments.tries {
+    let session = match tries {
         None => session,
         Some(tries) => session.with_tries(tries.parse().ok()?),
     };
-    match arguments.greeting {
+    match greeting {
         None => Some(session),
-        Some(greeting) => Some(session.with_greeting(text(greeting)?)),
+        Some(greeting) => {
+            let greeting = Text80::new(greeting.as_bytes()).ok()?;
+            Some(session.with_greeting(greeting))
+        }
     }
-}
-
-fn text(word: &str) -> Option<Text80> {
-    Text80::new(word.as_bytes()).ok()
-}
-
-// Site 0 of these queues, after it has taken the given frame, if there is one.
-fn replica(alloc: Global, arguments: Arguments<'_>) -> Option<Replica> {
-    let site = SiteId::new(0)?;
-    let list = queue_list(alloc, arguments.queues)?;
-    let mut replica = Replica::new(alloc, site, list);
-    let Some(frame) = arguments.frame else {
-        return Some(replica);
-    };
-    if has_taken(alloc, &mut replica, frame) {
-        return Some(replica);
-    }
-    drop(replica);
-    None
 }
 
 // Lets a site take the frame that these hexadecimal digits spell. Returns whether it took it.
@@ -180,8 +88,48 @@ fn has_taken(alloc: Global, replica: &mut Replica, digits: &str) -> bool {
     }
 }
 
-// The exit status for the end of a session.
-fn status(served: Result<(), ServeFault>) -> u8 {
+// Site 0 of these queues, after it has taken the given frame, if there is one. `None`: there is no such list of queues, the site does
+// not take the frame, or memory ran out.
+fn replica(alloc: Global, queues: &[String], frame: Option<&str>) -> Option<Replica> {
+    let site = SiteId::new(0)?;
+    let list = queue_list(alloc, queues)?;
+    let mut replica = Replica::new(alloc, site, list);
+    let Some(digits) = frame else {
+        return Some(replica);
+    };
+    if has_taken(alloc, &mut replica, digits) {
+        return Some(replica);
+    }
+    drop(replica);
+    None
+}
+
+// Serves a session of a site, whose client sends these bytes in pieces of this length at most. Returns the exit status.
+fn serve_stream<R: AllocGlobal + Print>(
+    rt: &R,
+    stream: &[u8],
+    piece: usize,
+    session: Session,
+    replica: Replica,
+) -> u8
+    requires { 0 < piece }
+{
+    let alloc = rt.alloc();
+    let mut reader = MemorySource::new(stream, piece);
+    let mut writer = StdSink::new(io::writer(rt));
+    let mut desk = ReplicaDesk::new(alloc, replica);
+    let served = serve(
+        rt,
+        alloc,
+        &mut reader,
+        &mut writer,
+        session,
+        &mut desk,
+        &mut NoWatch,
+    );
+    drop(desk);
+    drop(writer);
+    drop(reader);
     match served {
         Ok(()) => 0,
         Err(ServeFault::Read) => 10,
@@ -192,4 +140,40 @@ fn status(served: Result<(), ServeFault>) -> u8 {
         Err(ServeFault::Turns) => 15,
         Err(ServeFault::Memory) => 16,
     }
+}
+
+// Serves a session by these words, and returns the exit status. `None` if they are wrong.
+pub(crate) fn run<R: AllocGlobal + Print + Input>(
+    rt: &R,
+    words: &[String],
+) -> io::Result<Option<u8>> {
+    let (greeting, words) = optional("--greeting=", words);
+    let (tries, words) = optional("--tries=", words);
+    let (frame, words) = optional("--take=", words);
+    let [piece, user, secret, queues @ ..] = words else {
+        return Ok(None);
+    };
+    let Ok(piece) = piece.parse::<usize>() else {
+        return Ok(None);
+    };
+    if piece < 1 {
+        return Ok(None);
+    }
+    let Some(session) = session(greeting, tries, user, secret) else {
+        return Ok(None);
+    };
+    let mut stream = Vec::new(rt.alloc());
+    if let Err(error) = rt.reader().read_to_end(&mut stream) {
+        drop(stream);
+        return Err(error);
+    }
+    let status = match replica(rt.alloc(), queues, frame) {
+        Some(replica) => Some(serve_stream(rt, &stream, piece, session, replica)),
+        None => {
+            drop(session);
+            None
+        }
+    };
+    drop(stream);
+    Ok(status)
 }

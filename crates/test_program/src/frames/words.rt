@@ -1,32 +1,25 @@
 //! What deltas say, in words: a line for each run, live dot, field and total.
 use bstr::ByteSlice;
+use causal_context::Context;
 use delta::Delta;
 use dots::{Dot, QUEUES};
-use lww_registers::Fields;
 use member_orset::{Cell, MemberSet};
 use std::io::{self, Write};
 
-// Writes what a delta says.
-pub(crate) fn say_delta<W: Write>(out: &mut W, delta: &Delta) -> io::Result<()> {
-    for run in delta.members().context().iter() {
+fn yes_or_no(is_so: bool) -> &'static str {
+    if is_so { "yes" } else { "no" }
+}
+
+// Writes the runs of a context, each after this word.
+pub(crate) fn say_runs<W: Write>(out: &mut W, word: &str, context: &Context) -> io::Result<()> {
+    for run in context.iter() {
         let (first, last, site) = (run.first, run.last, run.site.number());
-        writeln!(out, "run {first} to {last} of site {site}")?;
-    }
-    for (dot, cell) in delta.members().iter() {
-        say_cell(out, dot, cell)?;
-    }
-    for (key, calls) in delta.totals().iter() {
-        let (site, queue) = (key.site().number(), key.queue());
-        let (completed, abandoned) = (calls.completed, calls.abandoned);
-        writeln!(
-            out,
-            "total of site {site} in queue {queue}: {completed} completed, {abandoned} abandoned"
-        )?;
+        writeln!(out, "{word} {first} to {last} of site {site}")?;
     }
     Ok(())
 }
 
-// Writes a live dot with its member and fields.
+// Writes a live dot with its member, and the fields that are set, each with its stamp.
 fn say_cell<W: Write>(out: &mut W, dot: Dot, cell: Cell<'_>) -> io::Result<()> {
     let (count, site) = (dot.count(), dot.site().number());
     let queue = cell.member.queue;
@@ -35,11 +28,7 @@ fn say_cell<W: Write>(out: &mut W, dot: Dot, cell: Cell<'_>) -> io::Result<()> {
         out,
         "live dot {count} of site {site} in queue {queue}: {interface:?}"
     )?;
-    say_fields(out, cell.fields)
-}
-
-// Writes the fields that are set, each with its stamp.
-fn say_fields<W: Write>(out: &mut W, fields: &Fields) -> io::Result<()> {
+    let fields = cell.fields;
     if let (Some(stamp), Some(penalty)) = (fields.penalty.stamp(), fields.penalty.value()) {
         let (time, site) = (stamp.time(), stamp.site().number());
         writeln!(out, "penalty at {time} of site {site}: {}", penalty.get())?;
@@ -70,8 +59,21 @@ fn say_fields<W: Write>(out: &mut W, fields: &Fields) -> io::Result<()> {
     Ok(())
 }
 
-fn yes_or_no(is_so: bool) -> &'static str {
-    if is_so { "yes" } else { "no" }
+// Writes what a delta says.
+pub(crate) fn say_delta<W: Write>(out: &mut W, delta: &Delta) -> io::Result<()> {
+    say_runs(out, "run", delta.members().context())?;
+    for (dot, cell) in delta.members().iter() {
+        say_cell(out, dot, cell)?;
+    }
+    for (key, calls) in delta.totals().iter() {
+        let (site, queue) = (key.site().number(), key.queue());
+        let (completed, abandoned) = (calls.completed, calls.abandoned);
+        writeln!(
+            out,
+            "total of site {site} in queue {queue}: {completed} completed, {abandoned} abandoned"
+        )?;
+    }
+    Ok(())
 }
 
 // Writes the rows that each queue shows.

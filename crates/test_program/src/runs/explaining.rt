@@ -1,68 +1,14 @@
 //! The list of events that explains what sites did, and the world that it leads to.
-use crate::runs::asks::{queue_list, whole_status};
-use crate::runs::runs_fault::RunsFault;
-use replica::Replica;
-use site_audit::audit;
+use crate::queues::status_of;
+use crate::runs::errors::{OUT_OF_RANGE, failed};
+use dots::Memory;
+use replica::{QueueList, Replica};
+use site_audit::{AuditFault, audit};
 use site_journal::Journaled;
 use sites_world::{Event, Outcome, World};
-use status_report::{StatusRequest, report};
+use status_report::report;
 use std::alloc::Global;
-
-// Whether two replicas give the same report.
-pub(crate) fn report_alike(
-    alloc: Global,
-    one: &Replica,
-    other: &Replica,
-    request: &StatusRequest,
-) -> Result<bool, RunsFault> {
-    let first = report(alloc, one, request)?;
-    let Ok(second) = report(alloc, other, request) else {
-        drop(first);
-        return Err(RunsFault::Memory);
-    };
-    let is_alike = first.as_slice() == second.as_slice();
-    drop(second);
-    drop(first);
-    Ok(is_alike)
-}
-
-// Runs events in a world, in order.
-fn let_happen(world: &mut World, events: Vec<Event>) -> Result<(), RunsFault> {
-    for event in events {
-        let outcome = world.happen(event);
-        let is_done = !matches!(outcome, Outcome::NoMemory);
-        drop(outcome);
-        if !is_done {
-            return Err(RunsFault::Memory);
-        }
-    }
-    Ok(())
-}
-
-// Whether each site of a world gives this report as its journal's replica does.
-fn compare_each(
-    alloc: Global,
-    world: &World,
-    journals: &[Journaled],
-    request: &StatusRequest,
-) -> Result<(), RunsFault> {
-    for journal in journals {
-        let site = journal.base().site();
-        let replica = world.replica(site).ok_or(RunsFault::OutOfRange)?;
-        if !report_alike(alloc, replica, journal.replica(), request)? {
-            return Err(RunsFault::World(site.number()));
-        }
-    }
-    Ok(())
-}
-
-// Whether each site of a world reports what its journal's replica does.
-fn compare(alloc: Global, world: &World, journals: &[Journaled]) -> Result<(), RunsFault> {
-    let request = whole_status(alloc);
-    let compared = compare_each(alloc, world, journals, &request);
-    drop(request);
-    compared
-}
+use std::io::{self, ErrorKind};
 
 // How many steps journals have together.
 pub(crate) fn steps_of(journals: &[Journaled]) -> u64 {
@@ -73,45 +19,95 @@ pub(crate) fn steps_of(journals: &[Journaled]) -> u64 {
     steps
 }
 
-// The list of events that explains journals, one for each step.
-fn explained(alloc: Global, journals: &[Journaled]) -> Result<Vec<Event>, RunsFault> {
-    let events = audit(alloc, journals)?;
-    if events.len() as u64 != steps_of(journals) {
-        drop(events);
-        return Err(RunsFault::Events);
+// Whether two replicas give the same report of all queues.
+pub(crate) fn report_alike(alloc: Global, one: &Replica, other: &Replica) -> Result<bool, Memory> {
+    let request = status_of(alloc, None);
+    let first = report(alloc, one, &request);
+    let second = report(alloc, other, &request);
+    drop(request);
+    let is_alike = match (&first, &second) {
+        (Ok(first), Ok(second)) => Ok(first.as_slice() == second.as_slice()),
+        _ => Err(Memory),
+    };
+    drop(second);
+    drop(first);
+    is_alike
+}
+
+// Runs events in a world, in order.
+fn let_happen(world: &mut World, events: Vec<Event>) -> io::Result<()> {
+    for event in events {
+        let outcome = world.happen(event);
+        let is_done = !matches!(outcome, Outcome::NoMemory);
+        drop(outcome);
+        if !is_done {
+            return Err(io::Error::from(ErrorKind::OutOfMemory));
+        }
     }
-    Ok(events)
+    Ok(())
 }
 
-// How many events explain journals.
-pub(crate) fn events_of(alloc: Global, journals: &[Journaled]) -> Result<u64, RunsFault> {
-    let events = explained(alloc, journals)?;
-    let count = events.len() as u64;
-    drop(events);
-    Ok(count)
+// Checks that each site of a world reports what its journal's replica does.
+fn compare(alloc: Global, world: &World, journals: &[Journaled]) -> io::Result<()> {
+    for journal in journals {
+        let site = journal.base().site();
+        let Some(replica) = world.replica(site) else {
+            return Err(io::Error::other(OUT_OF_RANGE));
+        };
+        if !report_alike(alloc, replica, journal.replica())? {
+            let number = site.number();
+            return Err(failed(format!(in alloc; "site {number} reports otherwise in the world")));
+        }
+    }
+    Ok(())
 }
 
-// Runs the events that explain journals in a new world, whose sites then report as the journals do. Returns the number of events.
-fn replay_in(alloc: Global, world: &mut World, journals: &[Journaled]) -> Result<u64, RunsFault> {
-    let events = explained(alloc, journals)?;
-    let count = events.len() as u64;
-    let_happen(world, events)?;
-    compare(alloc, world, journals)?;
-    Ok(count)
-}
-
-// A world of `sites` new sites.
-fn new_world(alloc: Global, sites: u16) -> Result<World, RunsFault> {
-    let list = queue_list(alloc)?;
-    let world = World::new(alloc, sites, &list);
-    drop(list);
-    Ok(world?)
-}
-
-// As `replay_in`, in a world of `sites` sites.
-pub(crate) fn replay(alloc: Global, sites: u16, journals: &[Journaled]) -> Result<u64, RunsFault> {
-    let mut world = new_world(alloc, sites)?;
-    let replayed = replay_in(alloc, &mut world, journals);
+// Runs events in a new world of `sites` sites, which then report as their journals do.
+fn replay(
+    alloc: Global,
+    list: &QueueList,
+    sites: u16,
+    journals: &[Journaled],
+    events: Vec<Event>,
+) -> io::Result<()> {
+    let mut world = match World::new(alloc, sites, list) {
+        Ok(world) => world,
+        Err(_) => {
+            drop(events);
+            return Err(io::Error::from(ErrorKind::OutOfMemory));
+        }
+    };
+    let replayed = match let_happen(&mut world, events) {
+        Ok(()) => compare(alloc, &world, journals),
+        Err(error) => Err(error),
+    };
     drop(world);
     replayed
+}
+
+// Explains the journals of `sites` sites by a list of events, one for each step. If they are to be replayed, they also run in a new
+// world. Returns the number of events.
+pub(crate) fn explain(
+    alloc: Global,
+    list: &QueueList,
+    sites: u16,
+    journals: &[Journaled],
+    is_replayed: bool,
+) -> io::Result<u64> {
+    let events = match audit(alloc, journals) {
+        Ok(events) => events,
+        Err(AuditFault::Memory) => return Err(io::Error::from(ErrorKind::OutOfMemory)),
+        Err(fault) => return Err(failed(format!(in alloc; "no audit: {fault}"))),
+    };
+    let count = events.len() as u64;
+    if count != steps_of(journals) {
+        drop(events);
+        return Err(io::Error::other("not one event for each step"));
+    }
+    if is_replayed {
+        replay(alloc, list, sites, journals, events)?;
+    } else {
+        drop(events);
+    }
+    Ok(count)
 }

@@ -2,72 +2,43 @@
 ghost use Rattle.std.specs.List.{All};
 ghost use Rattle.std.specs.Prelude.{◌<◌, ◌^◌, vec_len};
 
-use crate::runs::asks::{queue_list, some_ask, whole_status};
-use crate::runs::explaining::{replay, report_alike};
+use crate::gate::CountingGate;
+use crate::runs::asks::{queue_list, some_ask};
+use crate::runs::errors::{check_settled, failed};
+use crate::runs::explaining::{explain, report_alike};
 use crate::runs::numbers::Numbers;
-use crate::runs::runs_fault::RunsFault;
-use crate::runs::site::settled_by;
-use site_worker::{Deed, Gate, Journaled, LinkPlan, SiteEnd, SiteWork, run_sites};
-use status_report::{Ask, StatusRequest};
+use replica::QueueList;
+use site_worker::{Deed, Journaled, LinkPlan, SiteEnd, SiteWork, run_sites};
+use status_report::Ask;
 use std::alloc::Global;
+use std::io::{self, ErrorKind};
 use std::sync::Wait;
 use std::thread::Threads;
 
 // How many deeds a plan has at most.
 const MOST_DEEDS: u64 = 8;
 
-// A gate that does nothing.
-#[derive(Drop)]
-struct OpenGate;
-
-impl Gate for OpenGate {
-    ghost use Rattle.std.specs.Prelude.{◌≡◌};
-
-    ghost called = { λ old turn new. new ≡ old };
-
-    fn inside(&mut self, _turn: u64) {}
-}
-
-fn some_deed(numbers: &mut Numbers) -> Deed {
-    match numbers.below(4) {
-        0 => Deed::Lose,
-        1 => Deed::Twice,
-        2 => Deed::Hold,
-        _ => Deed::Deliver,
-    }
-}
-
-fn some_plan(alloc: Global, numbers: &mut Numbers) -> Result<LinkPlan, RunsFault> {
+fn some_plan(alloc: Global, numbers: &mut Numbers) -> io::Result<LinkPlan> {
     let mut deeds = Vec::new(alloc);
     for _ in 0..numbers.below(MOST_DEEDS) {
-        deeds.push(some_deed(numbers))?;
+        let deed = match numbers.below(4) {
+            0 => Deed::Lose,
+            1 => Deed::Twice,
+            2 => Deed::Hold,
+            _ => Deed::Deliver,
+        };
+        deeds.push(deed)?;
     }
     Ok(LinkPlan::new(deeds))
 }
 
-// Appends random asks.
-fn push_asks(
-    alloc: Global,
-    asks: &mut Vec<Ask>,
-    numbers: &mut Numbers,
-    count: u32,
-) -> Result<(), RunsFault> {
+// Random asks.
+fn some_asks(alloc: Global, numbers: &mut Numbers, count: u32) -> io::Result<Vec<Ask>> {
+    let mut asks = Vec::new(alloc);
     for _ in 0..count {
         asks.push(some_ask(alloc, numbers)?)?;
     }
-    Ok(())
-}
-
-// Random asks.
-fn some_asks(alloc: Global, numbers: &mut Numbers, count: u32) -> Result<Vec<Ask>, RunsFault> {
-    let mut asks = Vec::new(alloc);
-    match push_asks(alloc, &mut asks, numbers, count) {
-        Ok(()) => Ok(asks),
-        Err(fault) => {
-            drop(asks);
-            Err(fault)
-        }
-    }
+    Ok(asks)
 }
 
 // A list of random asks, and a random link plan.
@@ -75,33 +46,19 @@ fn some_work(
     alloc: Global,
     numbers: &mut Numbers,
     asks: u32,
-) -> Result<SiteWork<OpenGate>, RunsFault> {
+) -> io::Result<SiteWork<CountingGate>> {
     let plan = some_plan(alloc, numbers)?;
     match some_asks(alloc, numbers, asks) {
         Ok(asks) => Ok(SiteWork {
             asks,
             plan,
-            gate: OpenGate,
+            gate: CountingGate { calls: 0 },
         }),
-        Err(fault) => {
+        Err(error) => {
             drop(plan);
-            Err(fault)
+            Err(error)
         }
     }
-}
-
-// Appends the works of `sites` sites.
-fn push_works(
-    alloc: Global,
-    works: &mut Vec<SiteWork<OpenGate>>,
-    numbers: &mut Numbers,
-    sites: u16,
-    asks: u32,
-) -> Result<(), RunsFault> {
-    for _ in 0..sites {
-        works.push(some_work(alloc, numbers, asks)?)?;
-    }
-    Ok(())
 }
 
 // The works of `sites` sites.
@@ -110,19 +67,16 @@ fn some_works(
     numbers: &mut Numbers,
     sites: u16,
     asks: u32,
-) -> Result<Vec<SiteWork<OpenGate>>, RunsFault> {
+) -> io::Result<Vec<SiteWork<CountingGate>>> {
     let mut works = Vec::new(alloc);
-    match push_works(alloc, &mut works, numbers, sites, asks) {
-        Ok(()) => Ok(works),
-        Err(fault) => {
-            drop(works);
-            Err(fault)
-        }
+    for _ in 0..sites {
+        works.push(some_work(alloc, numbers, asks)?)?;
     }
+    Ok(works)
 }
 
 // The journal of a site that has done all its work, which the receipts of its passes have settled.
-fn settled(end: SiteEnd<OpenGate>) -> Result<Journaled, RunsFault>
+fn settled(alloc: Global, end: SiteEnd<CountingGate>) -> io::Result<Journaled>
     requires { vec_len end.receipts < 2 ^ 32 }
 {
     let SiteEnd {
@@ -132,67 +86,42 @@ fn settled(end: SiteEnd<OpenGate>) -> Result<Journaled, RunsFault>
         gate,
     } = end;
     drop(gate);
-    if let Some(fault) = fault {
-        drop(receipts);
-        drop(journal);
-        return Err(RunsFault::Step(fault));
-    }
-    let settled = settled_by(journal, receipts.as_slice());
+    let settled = match fault {
+        None => check_settled(alloc, &journal, receipts.as_slice()),
+        Some(fault) => Err(failed(format!(in alloc; "a step wasn't done: {fault}"))),
+    };
     drop(receipts);
-    settled
-}
-
-// Appends the journals of all sites.
-fn push_settled(
-    journals: &mut Vec<Journaled>,
-    ends: Vec<SiteEnd<OpenGate>>,
-) -> Result<(), RunsFault>
-    requires { All (λ end. vec_len end.receipts < 2 ^ 32) ends.items }
-{
-    for end in ends {
-        journals.push(settled(end)?)?;
-    }
-    Ok(())
-}
-
-// The journals of all sites.
-fn all_settled(alloc: Global, ends: Vec<SiteEnd<OpenGate>>) -> Result<Vec<Journaled>, RunsFault>
-    requires { All (λ end. vec_len end.receipts < 2 ^ 32) ends.items }
-{
-    let mut journals = Vec::new(alloc);
-    match push_settled(&mut journals, ends) {
-        Ok(()) => Ok(journals),
-        Err(fault) => {
-            drop(journals);
-            Err(fault)
+    match settled {
+        Ok(()) => Ok(journal),
+        Err(error) => {
+            drop(journal);
+            Err(error)
         }
     }
 }
 
-// Whether all sites give this report as the first does.
-fn compare_others(
-    alloc: Global,
-    journals: &[Journaled],
-    request: &StatusRequest,
-) -> Result<(), RunsFault> {
+// The journals of all sites.
+fn all_settled(alloc: Global, ends: Vec<SiteEnd<CountingGate>>) -> io::Result<Vec<Journaled>>
+    requires { All (λ end. vec_len end.receipts < 2 ^ 32) ends.items }
+{
+    let mut journals = Vec::new(alloc);
+    for end in ends {
+        journals.push(settled(alloc, end)?)?;
+    }
+    Ok(journals)
+}
+
+// Checks that all sites report as the first does, since each has taken a whole of each other.
+fn compare(alloc: Global, journals: &[Journaled]) -> io::Result<()> {
     let Some((first, others)) = journals.split_first() else {
         return Ok(());
     };
     for other in others {
-        if !report_alike(alloc, first.replica(), other.replica(), request)? {
-            return Err(RunsFault::Sites(other.base().site().number()));
+        if !report_alike(alloc, first.replica(), other.replica())? {
+            let number = other.base().site().number();
+            return Err(failed(format!(in alloc; "site {number} reports otherwise than the first")));
         }
     }
-    Ok(())
-}
-
-// Whether all sites report the same, since each has taken a whole of each other, and an audit explains their journals.
-fn compare(alloc: Global, sites: u16, journals: &[Journaled]) -> Result<(), RunsFault> {
-    let request = whole_status(alloc);
-    let compared = compare_others(alloc, journals, &request);
-    drop(request);
-    compared?;
-    replay(alloc, sites, journals)?;
     Ok(())
 }
 
@@ -200,36 +129,36 @@ fn compare(alloc: Global, sites: u16, journals: &[Journaled]) -> Result<(), Runs
 fn run_once<R: AllocGlobal + Threads + Wait + Sync>(
     rt: &R,
     numbers: &mut Numbers,
+    list: &QueueList,
     sites: u16,
     asks: u32,
-) -> Result<Vec<Journaled>, RunsFault> {
+) -> io::Result<Vec<Journaled>> {
     let alloc = rt.alloc();
-    let list = queue_list(alloc)?;
-    let works = match some_works(alloc, numbers, sites, asks) {
-        Ok(works) => works,
-        Err(fault) => {
-            drop(list);
-            return Err(fault);
-        }
-    };
-    let ends = run_sites(rt, alloc, &list, works);
-    drop(list);
-    all_settled(alloc, ends?)
+    let works = some_works(alloc, numbers, sites, asks)?;
+    match run_sites(rt, alloc, list, works) {
+        Ok(ends) => all_settled(alloc, ends),
+        Err(fault) => Err(failed(format!(in alloc; "{fault}"))),
+    }
 }
 
-// Runs `sites` sites `runs` times, each time with other asks and plans.
+// Runs `sites` sites `runs` times, each time with other asks and plans, and explains what they did. Returns the number of runs.
 pub(crate) fn run_often<R: AllocGlobal + Threads + Wait + Sync>(
     rt: &R,
     runs: u32,
     sites: u16,
     asks: u32,
-) -> Result<(), RunsFault> {
+) -> io::Result<u64> {
+    let alloc = rt.alloc();
+    let list = queue_list(alloc).ok_or(ErrorKind::OutOfMemory)?;
     let mut numbers = Numbers::new(u64::from(runs));
     for _ in 0..runs {
-        let journals = run_once(rt, &mut numbers, sites, asks)?;
-        let compared = compare(rt.alloc(), sites, journals.as_slice());
+        let journals = run_once(rt, &mut numbers, &list, sites, asks)?;
+        let explained = match compare(alloc, &journals) {
+            Ok(()) => explain(alloc, &list, sites, &journals, true),
+            Err(error) => Err(error),
+        };
         drop(journals);
-        compared?;
+        explained?;
     }
-    Ok(())
+    Ok(u64::from(runs))
 }

@@ -1,8 +1,7 @@
 //! Deeds at a site, the places where they are done, and their results.
-use dots::{Memory, SharedBytes};
+use dots::SharedBytes;
 use site_journal::{DeskFault, Receipt};
 use status_report::Ask;
-use std::alloc::Global;
 
 // What is done at a site.
 #[derive(Drop)]
@@ -12,16 +11,16 @@ pub(crate) enum Deed {
     Gated(Ask),
     Cut,
     Whole,
-    Take(Vec<u8>),
+    // Takes the frame of these bytes.
+    Take(SharedBytes),
     Checkpoint,
     // Drops the steps if they keep more than a number of bytes.
     CheckpointAbove(u64),
 }
 
-// How a deed ended.
-#[derive(Drop)]
-pub(crate) enum End {
-    Done(Receipt),
+// Why a deed has no receipt.
+#[derive(Clone, Copy)]
+pub(crate) enum NoReceipt {
     // The steps were dropped.
     Dropped,
     // The steps stay.
@@ -36,21 +35,16 @@ pub(crate) enum End {
 // Where deeds are done.
 pub(crate) trait Place<R> {
     // Does a deed. One that is refused is to change nothing.
-    fn done(&mut self, rt: &R, alloc: Global, deed: &Deed) -> End;
+    fn done(&mut self, rt: &R, deed: &Deed) -> Result<Receipt, NoReceipt>;
 }
 
-// A copy of the bytes of a frame that a site is to take. Fails only when out of memory.
-pub(crate) fn copy_of(alloc: Global, bytes: &[u8]) -> Result<SharedBytes, Memory> {
-    SharedBytes::new(alloc, Vec::from_slice(alloc, bytes)?)
-}
-
-// How a deed ended that was refused a frame, of which these bytes came back.
-pub(crate) fn refused(fault: DeskFault, back: SharedBytes, bytes: &[u8]) -> End {
-    let is_back = back.as_slice() == bytes;
+// Why a take of these bytes has no receipt, which was refused and returned some bytes.
+pub(crate) fn refused(fault: DeskFault, back: SharedBytes, bytes: &SharedBytes) -> NoReceipt {
+    let is_back = back.same(bytes);
     drop(back);
     if is_back {
-        End::Refused(fault)
+        NoReceipt::Refused(fault)
     } else {
-        End::Changed
+        NoReceipt::Changed
     }
 }
