@@ -70,8 +70,8 @@ TESTS = [
         refused={"fault": "ended it with Memory", "reply": "were replied to as Out of memory"},
     ),
     MemoryTest(
-        crate="tests_of_workers",
-        name="runs::memory_of_a_run",
+        crate="tests_of_servers",
+        name="workers::runs::memory_of_a_run",
         what="a run of three sites as threads",
         whole="whole",
         refused={

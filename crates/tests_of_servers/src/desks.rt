@@ -43,11 +43,11 @@ impl<R> Desk<R> for ShortDesk {
 }
 
 // The journal of new site 0, which holds at most two steps.
-fn journal(rt: &impl Abort, alloc: Global) -> Journaled
+pub(crate) fn journal(rt: &impl Abort, alloc: Global) -> Journaled
     ensures begun { result.count ≡ 0 }
     ensures site { IsOfSite result.base.site result.base.names result }
 {
-    let replica = replica(rt, alloc);
+    let replica = replica(rt, alloc, 0);
     match Journaled::new(alloc, replica, 2) {
         Ok(journal) => journal,
         Err(_) => rt.panic("memory"),

@@ -1,5 +1,6 @@
 //! Tests of feeds and devices, lists of queues, sessions that are served, desks for sessions, worlds of sites, scripts, logs of events,
-//! sites that are served over TCP, and their links, by their public calls. This crate has no code of its own.
+//! sites that are served over TCP, and their links; of links within a process, pumps, audits, and whole sites as threads. All go by public
+//! calls. This crate has no code of its own.
 #![tactic(auto)]
 
 #[cfg(test)]
@@ -26,5 +27,7 @@ mod shared;
 mod sites_served;
 #[cfg(test)]
 mod std_devices;
+#[cfg(test)]
+mod workers;
 #[cfg(test)]
 mod worlds;

@@ -41,7 +41,7 @@ fn is_text(given: &[u8], texts: &[&str]) -> bool {
 }
 
 fn desk(rt: &impl Abort, alloc: Global) -> ReplicaDesk {
-    ReplicaDesk::new(alloc, replica(rt, alloc))
+    ReplicaDesk::new(alloc, replica(rt, alloc, 0))
 }
 
 // Serves a session; its end is not asserted.

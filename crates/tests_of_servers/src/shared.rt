@@ -1,7 +1,7 @@
 //! What these tests share.
-use dots::{Bytes, QueueName, SiteId, Text80};
+use dots::{Bytes, Interface, Label, Penalty, QueueName, SiteId, Text80};
 use event_log::EventLog;
-use replica::{QueueList, Replica};
+use replica::{Command, QueueList, Replica};
 use status_report::{Ask, StatusRequest};
 use std::alloc::Global;
 use std::process::Abort;
@@ -24,9 +24,23 @@ pub(crate) fn list(rt: &impl Abort, alloc: Global) -> QueueList {
     QueueList::new(alloc, &[name(rt, b"sales")]).expect(rt, "a list")
 }
 
-// The replica of site 0, which knows nothing yet.
-pub(crate) fn replica(rt: &impl Abort, alloc: Global) -> Replica {
-    Replica::new(alloc, site(rt, 0), list(rt, alloc))
+// The replica of a site that knows nothing yet.
+pub(crate) fn replica(rt: &impl Abort, alloc: Global, number: u16) -> Replica {
+    Replica::new(alloc, site(rt, number), list(rt, alloc))
+}
+
+// The add of a member to the queue `sales`.
+pub(crate) fn add(rt: &impl Abort, interface: &[u8], penalty: u32) -> Command {
+    Command::Add {
+        queue: name(rt, b"sales"),
+        interface: Interface::new(interface).expect(rt, "an interface"),
+        penalty: Penalty::new(penalty).expect(rt, "a penalty"),
+        paused: false,
+        label: Label {
+            name: Text80::empty(),
+            state: Text80::empty(),
+        },
+    }
 }
 
 // The request of the status of all queues, without an ActionID.

@@ -1,7 +1,7 @@
 //! Worlds of sites, beyond what scripts can show: the number of sites, lists of events, and out of memory.
 use crate::replies::{REPORT_OF_CALLS, REPORT_OF_PENALTY_2};
-use crate::shared::{list, name, site, status};
-use dots::{Interface, Label, Penalty, SiteId, Text80};
+use crate::shared::{add, list, name, site, status};
+use dots::{Interface, SiteId};
 use replica::Command;
 use sites_world::{Event, Outcome, World, WorldFault};
 use status_report::{Answer, Ask};
@@ -89,25 +89,15 @@ fn a_world_has_from_1_to_64_sites_and_no_event_elsewhere(rt: HostRuntime) {
 }
 
 // The add of SIP/1 with this penalty.
-fn add(rt: &impl Abort, at: SiteId, penalty: u32) -> Event {
-    let added = Command::Add {
-        queue: name(rt, b"sales"),
-        interface: Interface::new(b"SIP/1").expect(rt, "an interface"),
-        penalty: Penalty::new(penalty).expect(rt, "a penalty"),
-        paused: false,
-        label: Label {
-            name: Text80::empty(),
-            state: Text80::empty(),
-        },
-    };
-    Event::Ask(at, Ask::Command(added))
+fn add_at(rt: &impl Abort, at: SiteId, penalty: u32) -> Event {
+    Event::Ask(at, Ask::Command(add(rt, b"SIP/1", penalty)))
 }
 
 // Two sites add SIP/1, and the first removes its own again; each takes the frames of the other, and both show the same.
 fn add_twice(rt: &impl Abort, alloc: Global, world: &mut World, is_refused: &mut bool) {
     let (first, second) = (site(rt, 0), site(rt, 1));
-    assert_happens(rt, world, add(rt, first, 1), "done", is_refused);
-    assert_happens(rt, world, add(rt, second, 2), "done", is_refused);
+    assert_happens(rt, world, add_at(rt, first, 1), "done", is_refused);
+    assert_happens(rt, world, add_at(rt, second, 2), "done", is_refused);
     assert_happens(rt, world, Event::Cut(first), "entry", is_refused);
     let removed = Command::Remove {
         queue: name(rt, b"sales"),

@@ -2,8 +2,9 @@
 ghost use Rattle.std.specs.Prelude.{◌≡◌};
 ghost use Rattle.site_journal.specs.Journals.{IsOfSite};
 
-use crate::asks::{replica, status};
-use crate::gates::{MANY_TURNS, MeetingGate, comes};
+use crate::desks::journal;
+use crate::shared::status;
+use crate::workers::gates::{MANY_TURNS, MeetingGate, comes};
 use site_desk::{Pass, SiteDesk, SiteLedger, close};
 use site_journal::Journaled;
 use std::alloc::Global;
@@ -120,18 +121,6 @@ fn assert_holds<L: SiteLedger + Send + Sync, R: Abort + Threads + Wait + Sync>(
     let first = passes.pop().expect(rt, "a pass");
     drop(passes);
     assert_excludes(rt, alloc, desk, first, second);
-}
-
-// The journal of a site, with a limit of two steps.
-fn journal(rt: &impl Abort, alloc: Global) -> Journaled
-    ensures begun { result.count ≡ 0 }
-    ensures site { IsOfSite result.base.site result.base.names result }
-{
-    let replica = replica(rt, alloc, 0);
-    match Journaled::new(alloc, replica, 2) {
-        Ok(journal) => journal,
-        Err(_) => rt.panic("memory"),
-    }
 }
 
 // Asserts what the two passes of a new desk do.

@@ -1,4 +1,4 @@
-use Rattle.tests_of_workers.proofs.desks.assert_of.Given as goal
+use Rattle.tests_of_servers.proofs.workers.desks.assert_of.Given as goal
 
 abbrev pub ghosts-assert_holds-L-Ledger : goal.ghosts-assert_holds-L-Ledger
 ghosts-assert_holds-L-Ledger g a = record { name = a.blank.name; parts = a.blank.parts }

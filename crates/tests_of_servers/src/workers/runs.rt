@@ -1,12 +1,12 @@
 //! Sites as threads: that they run at once, and what they come to.
-use crate::asks::{add, list, request};
-use crate::gates::{MANY_TURNS, MeetingGate};
+use crate::shared::{add, list, whole_status};
+use crate::workers::gates::{MANY_TURNS, MeetingGate};
 use replica::{QueueList, Replica};
 use site_worker::{
     AuditFault, Deed, DeskFault, Gate, Journaled, LinkPlan, RunFault, SiteEnd, SiteWork, audit,
     run_sites, settle,
 };
-use status_report::report;
+use status_report::{Ask, report};
 use std::alloc::Global;
 use std::process::Abort;
 use std::sync::Wait;
@@ -34,7 +34,8 @@ fn work<'a>(
     deed: Deed,
 ) -> SiteWork<MeetingGate<'a>> {
     let mut asks = Vec::new(alloc);
-    asks.push(add(rt, interface, penalty)).expect(rt, "memory");
+    let asked = Ask::Command(add(rt, interface, penalty));
+    asks.push(asked).expect(rt, "memory");
     let deeds = Vec::from_slice(alloc, &[deed]).expect(rt, "memory");
     SiteWork {
         asks,
@@ -136,7 +137,7 @@ Event: QueueStatusComplete\r\nEventList: Complete\r\nListItems: 4\r\n\r\n";
 
 // Whether there is memory for the report of a site, which then is what each site shows in the end.
 fn is_shown(rt: &impl Abort, alloc: Global, replica: &Replica) -> bool {
-    let request = request(alloc);
+    let request = whole_status(alloc);
     let reported = report(alloc, replica, &request);
     drop(request);
     let Ok(shown) = reported else {

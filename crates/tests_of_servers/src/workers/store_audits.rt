@@ -1,9 +1,9 @@
 //! Audits of the stores of two sites: the script that explains their rows, or the row that no event gives.
-use crate::asks::{add, replica};
-use crate::links::shared;
+use crate::shared::{add, replica};
+use crate::workers::links::shared;
 use ami_text::MemorySink;
 use site_journal::{Step, StepDeed};
-use status_report::Answer;
+use status_report::{Answer, Ask};
 use std::alloc::Global;
 use std::process::Abort;
 use store_audit::{AuditEnd, StoreJournal, audit_stores, journal_of_rows};
@@ -61,7 +61,7 @@ fn stores_of(rt: &impl Abort, alloc: Global, taken: &[u8]) -> Vec<StoreJournal> 
     let steps = [
         Step {
             pass: 0,
-            deed: StepDeed::Asked(add(rt, b"SIP/1", 5), Answer::Done),
+            deed: StepDeed::Asked(Ask::Command(add(rt, b"SIP/1", 5)), Answer::Done),
         },
         Step {
             pass: 0,

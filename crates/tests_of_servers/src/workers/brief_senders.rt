@@ -1,5 +1,5 @@
 //! An outlet that waits for a slow receiver only shortly: which items it drops, and when its receiver lacks none any more.
-use crate::links::{link, receive, shared};
+use crate::workers::links::{link, receive, shared};
 use site_pumps::{BriefSender, Outlet};
 use std::alloc::Global;
 use std::process::Abort;

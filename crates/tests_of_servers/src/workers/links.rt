@@ -1,7 +1,7 @@
 //! Links: how many items they hold, what they give back, and when they end; and helpers that send and receive.
 ghost use Rattle.std.specs.Prelude.{◌≡◌, ◌≤◌};
 
-use crate::gates::{MANY_TURNS, comes};
+use crate::workers::gates::{MANY_TURNS, comes};
 use dots::SharedBytes;
 use site_links::{Link, LinkReceiver, LinkSender, compare};
 use std::alloc::Global;
