@@ -402,26 +402,23 @@ impl<L: StoredLedger> RecordedSite<L> {
         }
     }
 
-    // As `take_all`, and with a copy of the site after the whole history, which stands before the dropped steps. Faults, in order: 1 those
-    // of `copy`; 2 those of `take_all`. A fault changes nothing.
+    // As `take_rest`, and with a copy of the site after the whole history. Faults, in order: 1 those of `copy`; 2 those of `take_rest`.
     pub fn take_base<S: StepStore>(
         &mut self,
         store: &S,
         saved: u64,
-    ) -> Result<(S::Group, HistoryPrefix<L>, Replica, DroppedSteps), DeskFault>
+    ) -> Result<(S::Group, HistoryPrefix<L>, Replica), DeskFault>
         ensures rest { IfOk result (λ base. IsGroupOfRest S.groups base.0 base.1 saved) }
         ensures legal { IfOk result (λ base. IsLegalHistory L.base base.1) }
         ensures lead { IfOk result (λ base. LeadAll L.base base.1 base.2) }
-        ensures dropped { OnOk result (HasDropped self.old.journal self.new.journal) }
-        ensures unchanged { OnErr result (self.new ≡ self.old) }
-        ensures history { self.new.history ≡ self.old.history }
+        ensures same { self.new ≡ self.old }
         ensures fault { IfErr result (λ fault.
             (fault ≡ DeskFault.Unsaved) ⊎ (fault ≡ DeskFault.Memory)) }
     {
         let (copy, before) = self.copy()?;
         drop(before);
-        match self.take_all(store, saved) {
-            Ok((group, history, dropped)) => Ok((group, history, copy, dropped)),
+        match self.take_rest(store, saved) {
+            Ok((group, history)) => Ok((group, history, copy)),
             Err(fault) => {
                 drop(copy);
                 Err(fault)

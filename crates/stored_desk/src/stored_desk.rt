@@ -34,7 +34,7 @@ fn pause<R: Wait>(rt: &R) {
     AtomicU64::new(0).park_timeout(rt, 0, Duration::from_millis(1));
 }
 
-// How steps are saved: alone; with a drop of the journal's steps; with that, and with the site after them in their place.
+// How steps are saved: alone; with a drop of the journal's steps; with the site after them in their place.
 #[derive(Clone, Copy)]
 enum Way {
     Steps,
@@ -482,13 +482,13 @@ impl<S: StepStore, L: StoredLedger> StoredDesk<S, L> {
         self.save_first(rt, u64::MAX, Way::Dropped)
     }
 
-    /// Saves all that the site has done so far, drops the steps of the journal, and puts the site after them in their place in the store.
-    /// The site is copied under its lock. The base is made of that copy, and both commits are done, while no lock is held; a call that has
-    /// a step to save waits for both.
+    /// Saves all that the site has done so far, and puts the site after that in the place of all steps in the store. Under its lock the site
+    /// is copied, and the steps that aren't saved yet are made ready. The base is made of that copy, and both commits are done, while no
+    /// lock is held; a call that has a step to save waits for both. The journal keeps its steps.
     ///
-    /// Errors, in order: 1 `Unsaved` and `Memory`, as of `checkpoint`; 2 `Memory`, where there is none for the base: the steps are saved
-    /// and dropped, the store keeps the base that it had, and later calls go on; 3 `Unsaved`, where the commit of the base fails. No
-    /// contract says what the store has then.
+    /// Errors, in order: 1 `Unsaved` and `Memory`, as of `settle_all`, and `Memory` for the copy; 2 `Memory`, where there is none for the
+    /// base: the steps are saved, the store keeps the base that it had, and later calls go on; 3 `Unsaved`, where the commit of the base
+    /// fails. No contract says what the store has then.
     pub fn replace_base<R: Wait>(&self, rt: &R) -> Result<(), DeskFault>
         ensures { IfErr result (λ fault.
             (fault ≡ DeskFault.Unsaved) ⊎ (fault ≡ DeskFault.Memory)) }

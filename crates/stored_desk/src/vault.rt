@@ -221,9 +221,9 @@ impl<S: StepStore, L: StoredLedger> Vault<S, L> {
         }
     }
 
-    // Saves all steps that the site has done, drops those of its journal, and puts the site after them in their place in the store. Faults,
-    // in order: 1 those of `save_rest` with `drops`, and `Memory` for a copy of the site, which changes nothing; 2 those of `put_base`:
-    // after its `Memory` the steps are saved and dropped, and the base is as before.
+    // Saves all steps that the site has done, and puts the site after them in their place in the store. The journal keeps its steps. Faults,
+    // in order: 1 those of `save_rest`, and `Memory` for a copy of the site, which changes nothing; 2 those of `put_base`: after its
+    // `Memory` the steps are saved, and the base is as before.
     pub fn save_base<R: Wait>(
         &mut self,
         rt: &R,
@@ -242,8 +242,7 @@ impl<S: StepStore, L: StoredLedger> Vault<S, L> {
         let saved = self.prefix.len();
         let taken = site.lock(rt).take_base(&self.store, saved);
         match taken {
-            Ok((group, history, copy, dropped)) => {
-                drop(dropped);
+            Ok((group, history, copy)) => {
                 if let Err(fault) = self.save(rt, mark, group, history) {
                     drop(copy);
                     return Err(fault);

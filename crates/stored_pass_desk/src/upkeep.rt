@@ -57,8 +57,8 @@ pub const MOST_ROWS: u64 = 10_000;
 pub const MOST_ROW_BYTES: u64 = 67_108_864;
 
 /// Saves all that a site has done so far. If its store then has more than `MOST_ROWS` rows or `MOST_ROW_BYTES` bytes since its base, the
-/// site becomes the base, and the steps of its journal are dropped. Errors, in order: 1 those of `StoredDesk::settle_all`; 2 those of
-/// `StoredDesk::replace_base`. After `Memory` a later call does it. The contract says only which errors there are.
+/// site becomes the base. Errors, in order: 1 those of `StoredDesk::settle_all`; 2 those of `StoredDesk::replace_base`. After `Memory` a
+/// later call does it. The contract says only which errors there are.
 pub fn save_all<D: StepStore, L: StoredLedger, R: Wait>(
     rt: &R,
     desk: &StoredDesk<D, L>,
