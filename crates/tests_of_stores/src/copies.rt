@@ -7,21 +7,19 @@ use std::alloc::Global;
 use std::process::Abort;
 use store_copy::{CopyFault, StoreBytes, rows_of_bytes};
 
-// A store in new files, whose base has the position 0.
-fn store_in_files(rt: &impl Abort, alloc: Global) -> Connection<FileStore<Memory>> {
+// A database in new files, without a table.
+fn database_in_files(rt: &impl Abort, alloc: Global) -> Connection<FileStore<Memory>> {
     let files = Files {
         log: Memory::new(alloc),
         db: Memory::new(alloc),
     };
-    let mut store = match Connection::open_files_with(alloc, files, Options::new(1), true) {
+    match Connection::open_files_with(alloc, files, Options::new(1), true) {
         Ok(conn) => conn,
         Err((_, left)) => {
             drop(left);
             panic!(*rt; "a database")
         }
-    };
-    assert!(*rt; created(rt, alloc, &mut store, 0));
-    store
+    }
 }
 
 // The bytes of two files.
@@ -49,9 +47,20 @@ fn assert_fault(rt: &impl Abort, alloc: Global, bytes: &StoreBytes, wanted: Copy
 }
 
 #[test]
+fn a_closed_database_without_a_table_is_no_store(rt: HostRuntime) {
+    let alloc = rt.alloc();
+    let blank = database_in_files(&rt, alloc);
+    let files = close(blank).ok().expect(&rt, "a closed database");
+    let bytes = bytes_of(&rt, alloc, files);
+    assert_fault(&rt, alloc, &bytes, CopyFault::NoStore);
+    drop(bytes);
+}
+
+#[test]
 fn a_crashed_store_is_read_up_to_the_end_of_its_log(rt: HostRuntime) {
     let alloc = rt.alloc();
-    let mut store = store_in_files(&rt, alloc);
+    let mut store = database_in_files(&rt, alloc);
+    assert!(rt; created(&rt, alloc, &mut store, 0));
     put(&rt, alloc, &mut store, 1, COMMAND, ADD);
     put(&rt, alloc, &mut store, 2, COMMAND, SECOND_ADD);
     let files = store.into_store().close();
@@ -69,7 +78,8 @@ fn a_crashed_store_is_read_up_to_the_end_of_its_log(rt: HostRuntime) {
 #[test]
 fn damage_of_a_closed_store_with_kept_rows_is_found(rt: HostRuntime) {
     let alloc = rt.alloc();
-    let mut store = store_in_files(&rt, alloc);
+    let mut store = database_in_files(&rt, alloc);
+    assert!(rt; created(&rt, alloc, &mut store, 0));
     assert!(rt; keep_rows(&mut store) == Ok(()));
     put(&rt, alloc, &mut store, 1, COMMAND, ADD);
     assert!(rt; replaced(&rt, alloc, &mut store, 2));

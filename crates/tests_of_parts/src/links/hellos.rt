@@ -305,6 +305,33 @@ fn an_acceptor_hears_the_answer_and_gives_its_verdict(rt: HostRuntime) {
     assert_accepted(&rt, alloc, Some(refusal), &answer, fault, &refused);
 }
 
+// Each read and each write has at most 7 bytes. A source fails in the middle of the acceptor's card, at its eleventh read. A sink fails in
+// the middle of the offer, at its ninth write.
+#[test]
+fn a_hello_ends_with_a_device_that_fails(rt: HostRuntime) {
+    let alloc = rt.alloc();
+    let offered = joined(&rt, alloc, &[ACCEPTOR_OPENS, OFFER]);
+    let mut source = MemorySource::failing(&offered, 7, 10);
+    let mut sink = MemorySink::new(alloc, 100);
+    let begun = begin(&rt, &mut source, &mut sink);
+    drop(source);
+    drop(offered);
+    assert!(rt; begun == Err(HelloFault::Silent));
+    assert_bytes(&rt, alloc, sink.as_slice(), &[DIALER_OPENS]);
+    drop(sink);
+    let opened = joined(&rt, alloc, &[DIALER_OPENS]);
+    let mut source = MemorySource::new(&opened, 7);
+    let mut sink = MemorySink::failing(alloc, 7, 8);
+    let accepted = accept(&rt, &mut source, &mut sink);
+    drop(source);
+    drop(opened);
+    assert!(rt; accepted == Err(HelloFault::NotSent));
+    // The opening has 37 bytes, which take 6 writes.
+    let written = [ACCEPTOR_OPENS, "01a0a1a2a3a4a5a6a7a8a9aaabac"];
+    assert_bytes(&rt, alloc, sink.as_slice(), &written);
+    drop(sink);
+}
+
 #[test]
 fn queues_have_a_digest(rt: HostRuntime) {
     let alloc = rt.alloc();

@@ -87,6 +87,7 @@ fn assert_received(
     fault: ReceiveFault,
 ) {
     let bytes = joined(rt, alloc, parts);
+    assert!(*rt; received(rt, alloc, &bytes, 1) == (count, fault));
     assert!(*rt; received(rt, alloc, &bytes, 7) == (count, fault));
     assert!(*rt; received(rt, alloc, &bytes, 100) == (count, fault));
     drop(bytes);

@@ -1,8 +1,11 @@
 //! What waits for a peer.
 use dots::SharedBytes;
-use site_peers::{SendQueue, WholeFrame};
+use site_journal::{Receipt, StepDeed};
+use site_peers::{MadeFrame, Outbox, SendQueue, SharedOutbox, SharedQueue, WholeFrame};
 use std::alloc::Global;
 use std::process::Abort;
+use std::sync::Wait;
+use std::time::{Clock, Duration};
 
 // Gives a whole that says this text, under a heading of 16 bytes that begins with this one.
 fn give(rt: &impl Abort, alloc: Global, queue: &mut SendQueue, first: u8, text: &str) {
@@ -81,5 +84,58 @@ fn frames_wait_after_a_whole_that_was_begun_for_the_peer(rt: HostRuntime) {
     assert!(rt; !queue.is_idle() && !queue.lacks_memory());
     queue.close();
     assert!(rt; queue.is_idle());
+    drop(queue);
+}
+
+// A whole, after a heading of 16 bytes.
+const WHOLE: &[u8] = b"its own heading.all";
+
+// Hands that whole twice to a shared queue that wants one: only the second one was begun for the peer. Asserts whether it waits then, and
+// takes it.
+fn assert_handed<R: Abort + Wait + Clock>(
+    rt: &R,
+    queue: &SharedQueue,
+    made: &MadeFrame<'_>,
+    waits: bool,
+) {
+    assert!(*rt; queue.wants_whole(rt));
+    let mut outbox = SharedOutbox::new(queue);
+    assert!(*rt; outbox.hand(rt, made));
+    assert!(*rt; !outbox.hand(rt, made));
+    drop(outbox);
+    assert!(*rt; !queue.wants_whole(rt));
+    match queue.take_within(rt, Duration::ZERO, queue.looks()) {
+        None => assert!(*rt; !waits),
+        Some(bytes) => {
+            assert!(*rt; waits && bytes.as_slice() == WHOLE);
+            drop(bytes);
+        }
+    }
+}
+
+// A lock hides the queue: no contract says what these calls do to it.
+#[test]
+fn a_whole_that_says_the_same_waits_in_a_shared_queue_only_if_required(rt: HostRuntime) {
+    let alloc = rt.alloc();
+    let bytes = Vec::from_slice(alloc, WHOLE).expect(&rt, "memory");
+    let bytes = SharedBytes::new(alloc, bytes).expect(&rt, "memory");
+    let receipt = Receipt {
+        pass: 0,
+        position: 0,
+        deed: StepDeed::Whole(bytes),
+    };
+    let made = MadeFrame::of(&receipt);
+    let queue = SharedQueue::new(alloc, 8);
+    // No peer is connected.
+    queue.require_whole(&rt);
+    assert!(rt; !queue.wants_whole(&rt));
+    queue.open(&rt);
+    assert_handed(&rt, &queue, &made, true);
+    queue.ask_whole(&rt);
+    assert_handed(&rt, &queue, &made, false);
+    queue.require_whole(&rt);
+    assert_handed(&rt, &queue, &made, true);
+    drop(made);
+    drop(receipt);
     drop(queue);
 }

@@ -18,11 +18,11 @@ struct BytePort {
 }
 
 impl BytePort {
-    // The frame of the next step. A port does 200 steps.
+    // The frame of the next step. A port's last step is step 9.
     fn next_frame(&self) -> Result<SharedBytes, DeskFault>
-        ensures { IfOk result (λ frame. self.now.steps ≤ 199) }
+        ensures { IfOk result (λ frame. self.now.steps ≤ 9) }
     {
-        if self.steps >= 200 {
+        if self.steps >= 10 {
             return Err(DeskFault::JournalFull);
         }
         let Ok(bytes) = Vec::from_slice(self.alloc, &[self.steps as u8]) else {
@@ -195,20 +195,23 @@ fn frames_are_broadcast_before_the_next_ring_until_an_outlet_is_out_of_memory(rt
     assert_given(&rt, rt.alloc(), 1, Err(DeskFault::Memory), 12, 1);
 }
 
-// What each outlet of a pump with a plan is given before its three rings, and before the end.
-const PLANNED: &[u64] = &[0, 0, 21, 2_133];
-
-// Three rings give four cuts and a whole. The plan holds the first frame, sends the second one and then the first, sends the third one
-// twice, and loses the fourth one.
-#[test]
-fn a_plan_is_followed_at_each_outlet_before_the_next_ring(rt: HostRuntime) {
-    let alloc = rt.alloc();
+// Pumps to two outlets by a plan of these deeds, over a port whose next step has this number. Asserts what the first outlet is given before
+// each ring and before the end, which fault stops the pump, how many receipts it returns, and what each outlet was given.
+fn assert_pumped<R: Abort + Wait>(
+    rt: &R,
+    alloc: Global,
+    deeds: &[Deed],
+    steps: u64,
+    wanted: &[u64],
+    fault: Option<DeskFault>,
+    receipts: usize,
+    given: u64,
+) {
     let (one, other) = (AtomicU64::new(0), AtomicU64::new(0));
-    let deeds = [Deed::Hold, Deed::Deliver, Deed::Twice, Deed::Lose];
-    let plan = LinkPlan::new(Vec::from_slice(alloc, &deeds).expect(&rt, "memory"));
+    let plan = LinkPlan::new(Vec::from_slice(alloc, deeds).expect(rt, "memory"));
     let mut port = BytePort {
         alloc,
-        steps: 1,
+        steps,
         fault: None,
     };
     let mut outlets = [
@@ -223,17 +226,41 @@ fn a_plan_is_followed_at_each_outlet_before_the_next_ring(rt: HostRuntime) {
     ];
     let mut bell = WatchingBell {
         given: &one,
-        wanted: PLANNED,
+        wanted,
         rings: 0,
         has_ended: false,
     };
-    let pumped = pump_out(&rt, alloc, &mut port, &mut outlets, &mut bell, &plan);
-    assert!(rt; pumped.fault.is_none() && pumped.receipts.len() == 5);
+    let pumped = pump_out(rt, alloc, &mut port, &mut outlets, &mut bell, &plan);
+    assert!(*rt; pumped.fault == fault && pumped.receipts.len() == receipts);
     drop(pumped);
-    assert!(rt; one.load(Ordering::SeqCst) == 21_335);
-    assert!(rt; other.load(Ordering::SeqCst) == 21_335);
+    assert!(*rt; one.load(Ordering::SeqCst) == given);
+    assert!(*rt; other.load(Ordering::SeqCst) == given);
     drop(bell);
     drop(outlets);
     drop(port);
     drop(plan);
+}
+
+// What each outlet of a pump with a plan is given before its three rings, and before the end.
+const PLANNED: &[u64] = &[0, 0, 21, 2_133];
+
+// Three rings give four cuts and a whole. The plan holds the first frame, sends the second one and then the first, sends the third one
+// twice, and loses the fourth one.
+#[test]
+fn a_plan_is_followed_at_each_outlet_before_the_next_ring(rt: HostRuntime) {
+    let deeds = [Deed::Hold, Deed::Deliver, Deed::Twice, Deed::Lose];
+    assert_pumped(&rt, rt.alloc(), &deeds, 1, PLANNED, None, 5, 21_335);
+}
+
+// What each outlet is given before the rings 1 to 3 of a pump whose third cut is refused. A fourth wait for the bell would fail the test.
+const STOPPED: &[u64] = &[0, 8, 8, 0];
+
+// The port does the steps 8 and 9. Where it refuses a cut the held frame is dropped. Where it refuses the whole the held frames were sent.
+#[test]
+fn a_pump_that_its_port_stops_waits_and_sends_no_more(rt: HostRuntime) {
+    let alloc = rt.alloc();
+    let full = Some(DeskFault::JournalFull);
+    let deeds = [Deed::Deliver, Deed::Hold];
+    assert_pumped(&rt, alloc, &deeds, 8, STOPPED, full, 2, 8);
+    assert_pumped(&rt, alloc, &[Deed::Hold], 8, &[0, 0], full, 2, 89);
 }

@@ -5,7 +5,7 @@ ghost use Rattle.site_journal.specs.Journals.{IsOfSite};
 use crate::desks::journal;
 use crate::shared::status;
 use crate::workers::gates::{MANY_TURNS, MeetingGate, comes};
-use site_desk::{Pass, SiteDesk, SiteLedger, close};
+use site_desk::{CloseFault, Pass, SiteDesk, SiteLedger, close};
 use site_journal::Journaled;
 use std::alloc::Global;
 use std::marker::Brand;
@@ -55,7 +55,8 @@ fn call_behind<L: SiteLedger, R: Abort + Wait>(
     count.fetch_add(1, Ordering::SeqCst);
 }
 
-// Closes a desk with both of its passes, and asserts that its journal has had two steps, which were dropped.
+// Asserts that a desk isn't closed with one of its two passes. Closes it with both, and asserts that its journal has had two steps, which
+// were dropped.
 fn assert_closed<L: SiteLedger>(
     rt: &impl Abort,
     alloc: Global,
@@ -65,6 +66,8 @@ fn assert_closed<L: SiteLedger>(
 ) {
     let mut passes = Vec::new(alloc);
     passes.push(first).expect(rt, "memory");
+    let (fault, desk, mut passes) = close(desk, passes).err().expect(rt, "a fault");
+    assert!(*rt; fault == CloseFault::WrongPasses && passes.len() == 1);
     passes.push(second).expect(rt, "memory");
     let journal = close(desk, passes).ok().expect(rt, "a journal");
     assert!(*rt; journal.count() == 2 && journal.start() == 2);
@@ -130,6 +133,6 @@ fn assert_of<R: Abort + Threads + Wait + Sync>(rt: &R, alloc: Global) {
 }
 
 #[test]
-fn a_gate_is_called_under_the_lock_and_full_journals_are_emptied(rt: HostRuntime) {
+fn a_desk_locks_for_a_gate_empties_a_full_journal_and_closes_with_all_passes(rt: HostRuntime) {
     assert_of(&rt, rt.alloc());
 }

@@ -10,7 +10,7 @@ use status_report::{Ask, report};
 use std::alloc::Global;
 use std::process::Abort;
 use std::sync::Wait;
-use std::sync::atomic::AtomicU64;
+use std::sync::atomic::{AtomicU64, Ordering};
 use std::thread::Threads;
 
 // Lets sites run.
@@ -68,6 +68,26 @@ fn works_of_three<'a>(
         .push(work(rt, alloc, count, turns, b"SIP/2", 2, Deed::Hold))
         .expect(rt, "memory");
     works
+}
+
+// No ask is run: the first one of a site would raise the count.
+#[test]
+fn a_run_of_no_sites_or_of_9_is_refused(rt: HostRuntime) {
+    let alloc = rt.alloc();
+    let list = list(&rt, alloc);
+    let count = AtomicU64::new(0);
+    let mut works = works_of_three(&rt, alloc, &count, 0);
+    works.clear();
+    let refused = ran(&rt, alloc, &list, works).err();
+    assert!(rt; refused == Some(RunFault::BadSites));
+    let mut works = works_of_three(&rt, alloc, &count, 0);
+    for _ in 0..6u32 {
+        let work = work(&rt, alloc, &count, 0, b"SIP/3", 3, Deed::Lose);
+        works.push(work).expect(&rt, "memory");
+    }
+    let refused = ran(&rt, alloc, &list, works).err();
+    assert!(rt; refused == Some(RunFault::BadSites) && count.load(Ordering::SeqCst) == 0);
+    drop(list);
 }
 
 // Asserts that the gate of a site, one of three, was called while those of the others were, and how many frames it has taken of each other
