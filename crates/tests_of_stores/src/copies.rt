@@ -1,7 +1,7 @@
 //! Stores that are read from the bytes of their files.
 use crate::shared::{ADD, COMMAND, SECOND_ADD, created, put, replaced};
 use site_store::{close, keep_rows};
-use sqlite::{Connection, FileStore, Files, Options};
+use sqlite::{Alter, Connection, FileStore, Files, Options};
 use sqlite_disk::Memory;
 use std::alloc::Global;
 use std::process::Abort;
@@ -20,6 +20,22 @@ fn database_in_files(rt: &impl Abort, alloc: Global) -> Connection<FileStore<Mem
             panic!(*rt; "a database")
         }
     }
+}
+
+// Makes a store whose base has the position 0, and puts two commands behind it.
+fn fill<S: Alter>(rt: &impl Abort, alloc: Global, store: &mut Connection<S>) {
+    assert!(*rt; created(rt, alloc, store, 0));
+    put(rt, alloc, store, 1, COMMAND, ADD);
+    put(rt, alloc, store, 2, COMMAND, SECOND_ADD);
+}
+
+// Makes a store whose base has the position 0 and which keeps rows, and puts a command, a further base and another command behind it.
+fn fill_twice<S: Alter>(rt: &impl Abort, alloc: Global, store: &mut Connection<S>) {
+    assert!(*rt; created(rt, alloc, store, 0));
+    assert!(*rt; keep_rows(store) == Ok(()));
+    put(rt, alloc, store, 1, COMMAND, ADD);
+    assert!(*rt; replaced(rt, alloc, store, 2));
+    put(rt, alloc, store, 3, COMMAND, SECOND_ADD);
 }
 
 // The bytes of two files.
@@ -47,22 +63,10 @@ fn assert_fault(rt: &impl Abort, alloc: Global, bytes: &StoreBytes, wanted: Copy
 }
 
 #[test]
-fn a_closed_database_without_a_table_is_no_store(rt: HostRuntime) {
-    let alloc = rt.alloc();
-    let blank = database_in_files(&rt, alloc);
-    let files = close(blank).ok().expect(&rt, "a closed database");
-    let bytes = bytes_of(&rt, alloc, files);
-    assert_fault(&rt, alloc, &bytes, CopyFault::NoStore);
-    drop(bytes);
-}
-
-#[test]
 fn a_crashed_store_is_read_up_to_the_end_of_its_log(rt: HostRuntime) {
     let alloc = rt.alloc();
     let mut store = database_in_files(&rt, alloc);
-    assert!(rt; created(&rt, alloc, &mut store, 0));
-    put(&rt, alloc, &mut store, 1, COMMAND, ADD);
-    put(&rt, alloc, &mut store, 2, COMMAND, SECOND_ADD);
+    fill(&rt, alloc, &mut store);
     let files = store.into_store().close();
     let mut bytes = bytes_of(&rt, alloc, files);
     assert_rows(&rt, alloc, &bytes, 0, &[1, 2, 2]);
@@ -79,11 +83,7 @@ fn a_crashed_store_is_read_up_to_the_end_of_its_log(rt: HostRuntime) {
 fn damage_of_a_closed_store_with_kept_rows_is_found(rt: HostRuntime) {
     let alloc = rt.alloc();
     let mut store = database_in_files(&rt, alloc);
-    assert!(rt; created(&rt, alloc, &mut store, 0));
-    assert!(rt; keep_rows(&mut store) == Ok(()));
-    put(&rt, alloc, &mut store, 1, COMMAND, ADD);
-    assert!(rt; replaced(&rt, alloc, &mut store, 2));
-    put(&rt, alloc, &mut store, 3, COMMAND, SECOND_ADD);
+    fill_twice(&rt, alloc, &mut store);
     let files = close(store).ok().expect(&rt, "a closed store");
     let mut bytes = bytes_of(&rt, alloc, files);
     for at in [2usize, 100, 4_095, 4_096, 8_000] {

@@ -64,21 +64,6 @@ impl<S, R: Wait> StoredTask<S, R> for AskOnce {
     }
 }
 
-// Site 0, which knows nothing, over a store that takes a number of commits.
-pub(crate) fn resumed_site(
-    rt: &impl Abort,
-    alloc: Global,
-    commits: u32,
-) -> ResumedSite<MemoryStore> {
-    let base = new_site_0(rt, alloc);
-    let replica = match base.copy() {
-        Ok(replica) => replica,
-        Err(_) => rt.panic("memory"),
-    };
-    let store = MemoryStore::new(base, commits);
-    ResumedSite::new(replica, store)
-}
-
 // What site 0 ends with whose two tasks ask for the same add, over a store that takes a number of commits.
 fn launched<R: Abort + Threads + Wait + Sync>(
     rt: &R,
@@ -90,7 +75,13 @@ fn launched<R: Abort + Threads + Wait + Sync>(
     tasks.push(AskOnce { asked: first }).expect(rt, "memory");
     let second = Ask::Command(add(rt));
     tasks.push(AskOnce { asked: second }).expect(rt, "memory");
-    let resumed = resumed_site(rt, alloc, commits);
+    let base = new_site_0(rt, alloc);
+    let replica = match base.copy() {
+        Ok(replica) => replica,
+        Err(_) => rt.panic("memory"),
+    };
+    let store = MemoryStore::new(base, commits);
+    let resumed = ResumedSite::new(replica, store);
     assert!(*rt; resumed.site().number() == 0 && resumed.list().len() == 1);
     let mut sites = Vec::new(alloc);
     let site = StoredSiteTasks {

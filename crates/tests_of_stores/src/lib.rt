@@ -1,6 +1,6 @@
-//! Tests of stores, by their public calls: rows, bases, restored sites, stores over a database in memory, a desk with a store in memory
-//! that fails at a commit, and sites over such a store that are launched and served. This crate has no code of its own. Its bytes were
-//! worked out by hand, by docs/store.md and docs/frames.md.
+//! Tests of stores, by their public calls: rows, bases, restored sites, stores over a database in memory, and a desk with a store in
+//! memory that fails at a commit. This crate has no code of its own. Its bytes were worked out by hand, by docs/store.md and
+//! docs/frames.md.
 #![tactic(auto)]
 
 #[cfg(test)]
@@ -19,8 +19,6 @@ mod launches;
 mod listings;
 #[cfg(test)]
 mod memory_store;
-#[cfg(test)]
-mod served;
 #[cfg(test)]
 mod shared;
 #[cfg(test)]
