@@ -174,14 +174,6 @@ fn has_log(rt: &HostRuntime, path: &str) -> Result<bool, Memory> {
     Ok(!is_missing(rt, log.as_str()))
 }
 
-// Removes the file at a path and its log. What the system doesn't remove stays. Fails only when out of memory. No contract says this.
-fn remove_files(rt: &HostRuntime, path: &str) -> Result<(), Memory> {
-    let log = with_ending(rt.alloc(), path, "-wal")?;
-    let _ = fs::remove_file(rt, path);
-    let _ = fs::remove_file(rt, log.as_str());
-    Ok(())
-}
-
 // The folder of the file at a path, which nobody else holds, until it is dropped: it waits for who does. The fault is `CannotOpen`. No
 // contract says which folder.
 fn locked_folder(rt: &HostRuntime, path: &str) -> Result<File, OpenFault> {
@@ -217,8 +209,8 @@ fn rename_file(rt: &HostRuntime, folder: &File, from: &str, to: &str) -> Result<
 }
 
 // Makes the store of a new site, with these queues, at a path in a folder that this process holds, if the path is missing: in another file,
-// which is renamed once it is whole. Errors, in order: `NoStore`, if the log of the path is there; `NoName`; those of `make_store` and of
-// `rename_file`. `Memory` may replace each. At an error no new file is left, if the system removes it.
+// whose log is removed once it is whole, and which is renamed then. Errors, in order: `NoStore`, if the log of the path is there; `NoName`;
+// those of `make_store` and of `rename_file`. `Memory` may replace each. At an error no new file is left, if the system removes it.
 fn make_in_folder(
     rt: &HostRuntime,
     folder: &File,
@@ -233,12 +225,17 @@ fn make_in_folder(
         return Err(SiteFileFault::Open(OpenFault::NoStore));
     }
     let new = path_beside(rt, path)?;
-    let made = match make_store(rt, new.as_str(), site, list) {
+    let log = with_ending(rt.alloc(), new.as_str(), "-wal")?;
+    let made = make_store(rt, new.as_str(), site, list);
+    let _ = fs::remove_file(rt, log.as_str());
+    let renamed = match made {
         Ok(()) => rename_file(rt, folder, new.as_str(), path).map_err(SiteFileFault::Open),
         Err(fault) => Err(fault),
     };
-    remove_files(rt, new.as_str())?;
-    made
+    if renamed.is_err() {
+        let _ = fs::remove_file(rt, new.as_str());
+    }
+    renamed
 }
 
 // What must be done before the store at a path is opened: if the path is missing, the store of a new site is made. Errors, in order:
@@ -263,9 +260,10 @@ fn prepare_file(
 }
 
 /// The store in the file at a path, as `restore_site_file` has it. Where neither the file nor its log (`PATH-wal`) is there, it first makes
-/// the store of a new site, with a name of 16 random bytes: in a file `PATH-new-N`, N at random, which is renamed once it is whole. So a
-/// crash leaves a whole store or none at the path, and the next call goes on; it may leave `PATH-new-N` and its log, which nothing needs.
-/// Meanwhile it holds the lock (`flock`) of the folder, for which others wait that make a store there.
+/// the store of a new site, with a name of 16 random bytes: in a file `PATH-new-N`, N at random, whose log is removed once it is whole, and
+/// which is renamed then. So a crash leaves a whole store or none at the path, and the next call goes on; where it leaves none it may leave
+/// `PATH-new-N` and its log, which nothing needs. Meanwhile it holds the lock (`flock`) of the folder, for which others wait that make a
+/// store there.
 ///
 /// Errors, in order: `Open` with `CannotOpen`, if the file is missing and its folder can't be opened or locked; `Open` with `NoStore`, if
 /// only the log is there, or the system doesn't say whether it is, or the file has at most one byte, or the path is a link that leads
