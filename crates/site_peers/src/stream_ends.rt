@@ -29,7 +29,7 @@ const LOOK_MILLIS: u64 = 900;
 
 const LOOK_WAIT_MILLIS: u64 = 1;
 
-// How long no acknowledgement may be found, in milliseconds, since the last one, which may have come a look earlier.
+// How long no acknowledgement may be found without waiting, in milliseconds, since the last one, which may have come a look earlier.
 const MISSED_MILLIS: u64 = SILENT_MILLIS - LOOK_MILLIS;
 
 // How long a read waits for an acknowledgement that is needed, in milliseconds.
@@ -189,7 +189,7 @@ impl<'a, R: Wait + Clock, G: Ring<R> + Drop> AcknowledgementReader
     for StreamAcknowledgements<'a, R, G> {
     // Waits for at most 0.25 seconds if `waits` is true; else it reads at most each 0.9 seconds, and where the peer's queue has it look at
     // the connection, and waits for at most 1 ms. Errors, in order: `NoClock`; `Ending`; those of `read_once`; `Silent` if no number was
-    // found for 3.1 seconds.
+    // found for 4 seconds, without waiting for 3.1.
     fn read_last(&mut self, waits: bool) -> Result<Option<u64>, OutletFault> {
         let Some(now) = millis(self.rt) else {
             return Err(OutletFault::NoClock);
@@ -203,15 +203,15 @@ impl<'a, R: Wait + Clock, G: Ring<R> + Drop> AcknowledgementReader
         }
         self.looks = looks;
         self.looked = now;
-        let wait = if waits {
-            NEEDED_WAIT_MILLIS
+        let (wait, most) = if waits {
+            (NEEDED_WAIT_MILLIS, SILENT_MILLIS)
         } else {
-            LOOK_WAIT_MILLIS
+            (LOOK_WAIT_MILLIS, MISSED_MILLIS)
         };
         let last = self.read_once(wait)?;
         if last.is_some() {
             self.came = now;
-        } else if now >= self.came.saturating_add(MISSED_MILLIS) {
+        } else if now >= self.came.saturating_add(most) {
             return Err(OutletFault::Silent);
         }
         Ok(last)
