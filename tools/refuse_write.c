@@ -1,7 +1,7 @@
-/* Lets one call fail by EIO that writes or syncs a file of a store, whose name ends in `.db` or has `.db-new-`, or its log (`-wal`), of a
-   program that it is loaded before (LD_PRELOAD); or kills the program at that call, before it is made. Where a sync fails the file loses what
-   was written to it since its last sync, as it may on a disk that fails. Where the program is killed, files may lose that too, as where the
-   power fails.
+/* Lets one call fail by EIO that writes or syncs a file of a store, whose name ends in `.db` or has `.db-new-`, or its log (`-wal`), renames a
+   file to such a name, or syncs a folder, of a program that it is loaded before (LD_PRELOAD); or kills the program at that call, before it is
+   made. Where a sync fails the file loses what was written to it since its last sync, as it may on a disk that fails. Where the program is
+   killed, files may lose that too, as where the power fails.
 
    REFUSED_WRITE is the number of the call that fails, counted from 1, and KILLED_WRITE that of the call at which the program is killed; 0 is
    none. LOST_WRITES says which files then lose what they haven't synced: 0 none, 1 logs, 2 the others, 3 all. WRITES_FILE names a file of
@@ -148,8 +148,8 @@ static void forget(int file, uint64_t kinds, int undoes) {
     pthread_mutex_unlock(&lock);
 }
 
-static int is_refused(int file) {
-    if (kind_of(file) == NO_STORE) return 0;
+/* Counts a call. Returns whether it must fail, for which errno says why. */
+static int is_refused(void) {
     uint64_t number = atomic_fetch_add(&counts->calls, 1) + 1;
     if (number != refused && number != killed) return 0;
     struct timespec now;
@@ -164,18 +164,22 @@ static int is_refused(int file) {
     return 1;
 }
 
+static int is_refused_of(int file) {
+    return (kind_of(file) != NO_STORE || S_ISDIR(state_of(file).st_mode)) && is_refused();
+}
+
 ssize_t write(int file, const void *bytes, size_t length) {
     ssize_t (*next)(int, const void *, size_t) = (ssize_t (*)(int, const void *, size_t))dlsym(RTLD_NEXT, "write");
-    return is_refused(file) ? -1 : next(file, bytes, length);
+    return is_refused_of(file) ? -1 : next(file, bytes, length);
 }
 
 ssize_t writev(int file, const struct iovec *pieces, int number) {
     ssize_t (*next)(int, const struct iovec *, int) = (ssize_t (*)(int, const struct iovec *, int))dlsym(RTLD_NEXT, "writev");
-    return is_refused(file) ? -1 : next(file, pieces, number);
+    return is_refused_of(file) ? -1 : next(file, pieces, number);
 }
 
 ssize_t pwrite64(int file, const void *bytes, size_t length, off64_t place) {
-    if (is_refused(file)) return -1;
+    if (is_refused_of(file)) return -1;
     note(file, place, length);
     return next_pwrite(file, bytes, length, place);
 }
@@ -183,7 +187,7 @@ ssize_t pwrite64(int file, const void *bytes, size_t length, off64_t place) {
 ssize_t pwrite(int file, const void *bytes, size_t length, off_t place) { return pwrite64(file, bytes, length, place); }
 
 int ftruncate64(int file, off64_t size) {
-    if (is_refused(file)) return -1;
+    if (is_refused_of(file)) return -1;
     off64_t more = state_of(file).st_size - size;
     note(file, size, more > 0 ? (size_t)more : 0);
     return next_ftruncate(file, size);
@@ -193,7 +197,7 @@ int ftruncate(int file, off_t size) { return ftruncate64(file, size); }
 
 static int sync_by(const char *call, int file) {
     int (*next)(int) = (int (*)(int))dlsym(RTLD_NEXT, call);
-    int is_store = kind_of(file) != NO_STORE, fails = is_refused(file), status = fails ? -1 : next(file);
+    int is_store = kind_of(file) != NO_STORE, fails = is_refused_of(file), status = fails ? -1 : next(file);
     if (is_store) forget(file, 0, fails);
     if (fails) errno = EIO;
     return status;
@@ -202,3 +206,8 @@ static int sync_by(const char *call, int file) {
 int fsync(int file) { return sync_by("fsync", file); }
 
 int fdatasync(int file) { return sync_by("fdatasync", file); }
+
+int rename(const char *from, const char *to) {
+    int (*next)(const char *, const char *) = (int (*)(const char *, const char *))dlsym(RTLD_NEXT, "rename");
+    return ends_in(to, ".db") && is_refused() ? -1 : next(from, to);
+}

@@ -1437,15 +1437,18 @@ def run_refused(room, library, number, stores):
                      rb"site 0: (store failed: .+|ends: the store has failed))")
             need(status == 1, f"where allocation {number} is refused the status is {status}")
             reasons = [it for it in lines if not LACKS.fullmatch(it)]
-            need(reasons and all(re.fullmatch(texts, it) for it in reasons), f"where allocation {number} is refused a site logs {log!r}")
+            # That the store has failed has a second line, which says that the site ends.
+            causes = [it for it in reasons if b"store failed: " not in it]
+            is_one = len(causes) == 1 and len(reasons) - 1 == causes[0].endswith(b"ends: the store has failed")
+            need(is_one and all(re.fullmatch(texts, it) for it in reasons), f"where allocation {number} is refused a site logs {log!r}")
         else:
             need(all(LACKS.fullmatch(it) for it in lines), f"where allocation {number} is refused a site logs {log!r}")
         return int(read(counted)), has_ended
 
 
-def refused_allocations(number=SOME_ALLOCATIONS, stores=False):
-    """With each allocation of a run of two sites refused in turn, or some, both show the same in the end, or the one ends with a line that says
-    why."""
+def refused_with(stores, number):
+    """With each allocation of a run of two sites refused in turn, or this number of them, both show the same in the end, or the one ends for one
+    reason, which it logs."""
     with tempfile.TemporaryDirectory() as room, concurrent.futures.ThreadPoolExecutor(4) as threads:
         library = compiled_refusal(room)
         if library is None:
@@ -1454,12 +1457,13 @@ def refused_allocations(number=SOME_ALLOCATIONS, stores=False):
         tried = some_of(allocations, number)
         ended = sum(has_ended for _, has_ended in threads.map(lambda it: run_refused(room, library, it, stores), tried))
     which = "each" if len(tried) == allocations else f"{len(tried)}"
-    return f"{which} of the {allocations} allocations of a linked site refused: {ended} ended it, the others let both sites show the same"
+    kind = "a linked site with a store" if stores else "a linked site"
+    return f"{which} of the {allocations} allocations of {kind} refused: {ended} ended it, the others let both sites show the same"
 
 
-def all_refused_allocations():
-    """Each allocation, with stores and without."""
-    return "; ".join(refused_allocations(None, stores) for stores in (False, True))
+def refused_allocations(number=SOME_ALLOCATIONS):
+    """Allocations of a linked site that are refused, without stores and with them."""
+    return "; ".join(refused_with(stores, number) for stores in (False, True))
 
 
 def words_of_a_site():
@@ -1503,7 +1507,7 @@ TESTS = [words_of_a_site, stores_of_sites, clients_of_a_site, addresses, three_s
          who_sits_on_the_line, acknowledgements_that_are_refused, sites_that_end, copies_that_meet, stores_that_fail, frames_that_conflict,
          wakes_that_fail, a_start_that_waits, silent_connections, silent_peers, a_peer_that_reads_nothing, refused_allocations]
 # What `all` changes, and what it does besides.
-LONGER = {refused_allocations: all_refused_allocations}
+LONGER = {refused_allocations: lambda: refused_allocations(None)}
 MORE = [a_late_item, a_long_whole]
 
 

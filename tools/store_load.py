@@ -4,7 +4,7 @@
   the same disk, and by Redis with `appendfsync always`, where Debian's redis-server is installed; then all of these with syncs that take
   longer, as on slower disks
 - how long a status waits while 32 clients add, and while nobody does
-- how long a site takes to listen that has 16,384 members and 10,000 steps
+- how long a site takes to listen that has 16,384 members and 10,000 steps, and how long a change waits for its next base
 
 Each load runs until the host takes little from it, as tools/server_load.py says. TMPDIR names another folder. It takes one to twelve
 minutes."""
@@ -79,18 +79,23 @@ def statuses(program, adding):
 
 
 def add_all(server, first, number, clients=32):
-    """Adds members, by many clients at once, or changes them where they are there."""
+    """Adds members, by many clients at once, or changes them where they are there. Returns the seconds that the slowest reply took."""
     def work(client_number):
+        slowest = 0
         with server.logged_in() as it:
             for member in range(first + client_number, first + number, clients):
+                started = time.monotonic()
                 it.ask("QueueAdd" if member < MEMBERS else "QueuePenalty", Queue="sales", Interface=f"SIP/{member % MEMBERS}", Penalty=member % 1_000)
+                slowest = max(slowest, time.monotonic() - started)
+        return slowest
 
     with concurrent.futures.ThreadPoolExecutor(clients) as threads:
-        list(threads.map(work, range(clients)))
+        return max(threads.map(work, range(clients)))
 
 
 def start_of_a_full_site():
-    """How long a site takes to listen that has 16,384 members and nearly 10,000 steps, and how many these are."""
+    """How many rows a site has with 16,384 members and nearly 10,000 steps, how long it takes to listen and to answer, and how long a change
+    takes at most beside 32 clients, first without a base and then with one."""
     with tempfile.TemporaryDirectory() as folder:
         with stored(folder, 1, 64) as server:
             add_all(server, 0, MEMBERS)
@@ -100,12 +105,16 @@ def start_of_a_full_site():
             rows = len(rows_of(folder, 0))
             server.stop()
         started = time.monotonic()
-        with stored(folder, 1) as server:
+        with stored(folder, 1, 64) as server:
             listens = time.monotonic() - started
             with server.logged_in() as it:
                 answers = time.monotonic() - started
                 need(b"ListItems: %d\r\n" % (MEMBERS + 1) in it.ask("QueueStatus"), "a full site that starts again lacks members")
-    return rows, listens, answers
+            without = add_all(server, MEMBERS, 100)
+            need(len(rows_of(folder, 0)) > rows, "a base is put too early")
+            beside = add_all(server, MEMBERS, 2_000)
+            need(len(rows_of(folder, 0)) < rows, "no base is put")
+    return rows, listens, answers, without, beside
 
 
 @contextlib.contextmanager
@@ -158,8 +167,9 @@ def main():
             changes(program, {"LD_PRELOAD": slow_disk, "SYNC_DELAY": str(delay)})
         show("status, nobody adds", 1, lambda: statuses(program, 0))
         show("status, while 32 clients add", 1, lambda: statuses(program, 32))
-    rows, listens, answers = start_of_a_full_site()
+    rows, listens, answers, without, beside = start_of_a_full_site()
     print(f"start of a site with {MEMBERS:,} members and {rows:,} rows: it listens after {listens:.2f} s and answers after {answers:.2f} s")
+    print(f"32 clients change its members: the slowest reply takes {1_000 * without:.0f} ms, and {1_000 * beside:.0f} while it puts a base")
     if not has_redis():
         print("store_load: redis-server isn't installed: its rows are left out")
 

@@ -338,14 +338,22 @@ def first_starts_at_once(times=10, servers=3):
     return f"{times} times {servers} first starts at once"
 
 
+def until_whole(folder, starts):
+    """Waits until a site has stored a whole of each start, and no further one."""
+    ends = time.monotonic() + PATIENCE
+    while (wholes := sum(it[2] == WHOLE for it in rows_of(folder, 0))) != starts:
+        need(time.monotonic() < ends, f"a site that starts {starts} times stores {wholes} wholes")
+
+
 def opened_again(times=30):
-    """A store that is opened again and again keeps its members, and counts its starts."""
+    """A store that is opened again and again keeps its members, counts its starts, and has a whole of each."""
     with tempfile.TemporaryDirectory() as folder:
         for turn in range(times):
             with stored(folder, 1) as server:
                 with server.logged_in() as client:
                     client.succeed("QueueAdd", Queue="sales", Interface=f"SIP/{turn}")
                     need(members(client.ask("QueueStatus")) == {f"SIP/{it}": 0 for it in range(turn + 1)}, "a store that is opened again has other members")
+                until_whole(folder, turn + 1)
                 server.stop()
         check_words(folder, 1, times)
     return f"a store that is opened {times} times"
