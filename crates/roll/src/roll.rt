@@ -39,6 +39,34 @@ impl Model for Roll {
     ghost view = { λ r. r.seen };
 }
 
+// Why a site isn't admitted whose number was seen with this store, start count and process. `None`: it is admitted. In order: `TakenNumber`,
+// `OlderCopy`, `SecondCopy`.
+fn refusal_by(seen: &Identity, card: &Card) -> Option<Refusal>
+    ensures none { (result ≡ None) ↔ ((seen.now.store ≡ card.now.store)
+        × (seen.now.starts ≤ card.now.starts)
+        × (seen.now.starts ≡ card.now.starts → seen.now.process ≡ card.now.process)) }
+    ensures taken_number { (result ≡ Some Refusal.TakenNumber)
+        ↔ (seen.now.store ≢ card.now.store) }
+    ensures older_copy { (result ≡ Some Refusal.OlderCopy) ↔ ((seen.now.store ≡ card.now.store)
+        × (card.now.starts < seen.now.starts)) }
+    ensures second_copy { (result ≡ Some Refusal.SecondCopy)
+        ↔ ((seen.now.store ≡ card.now.store) × (seen.now.starts ≡ card.now.starts)
+        × (seen.now.process ≢ card.now.process)) }
+    ensures other { IfSome result (λ refusal. (refusal ≡ Refusal.TakenNumber)
+        ⊎ ((refusal ≡ Refusal.OlderCopy) ⊎ (refusal ≡ Refusal.SecondCopy))) }
+{
+    if seen.store != card.store {
+        return Some(Refusal::TakenNumber);
+    }
+    if card.starts < seen.starts {
+        return Some(Refusal::OlderCopy);
+    }
+    if card.starts == seen.starts && card.process != seen.process {
+        return Some(Refusal::SecondCopy);
+    }
+    None
+}
+
 impl Roll {
     /// A roll on which no store was seen.
     pub fn new() -> Roll
@@ -94,15 +122,9 @@ impl Roll {
             unreachable!();
         };
         let place = usize::from(card.number);
-        if let Some(seen) = self.seen[place] {
-            if seen.store != card.store {
-                return Err(Refusal::TakenNumber);
-            }
-            if card.starts < seen.starts {
-                return Err(Refusal::OlderCopy);
-            }
-            if card.starts == seen.starts && card.process != seen.process {
-                return Err(Refusal::SecondCopy);
+        if let Some(seen) = &self.seen[place] {
+            if let Some(refusal) = refusal_by(seen, card) {
+                return Err(refusal);
             }
         }
         self.seen[place] = Some(Identity {
