@@ -1,7 +1,7 @@
 """Tries wrong bodies of functions: the prover must refuse a goal of each such function itself.
 
     tools/wrong_bodies.py [CRATE..]      those of all crates, or of these, which are proved first
-    tools/wrong_bodies.py --control ..   tries none, and shows that such checks prove the functions
+    tools/wrong_bodies.py --control ..   tries none, and shows that such checks refuse nothing else
     tools/wrong_bodies.py --goals ..     tries them, and writes into each file which goals it leaves open
     tools/wrong_bodies.py --self-test    tries edits that show nothing: each must fail by its name
 
@@ -25,14 +25,20 @@ functions and what these call. It says of each function whether a goal of its ow
 whether it only calls one that is refused, so each wrong body has a verdict of its own. A second
 wrong body of a function goes into a copy of it with its proof, under the name FUNCTION_2. Where
 there can be no copy, as of a trait's function, it goes into a second check; so does one that
-changes a line of another. Where a function calls another wrong one and has no refused goal, it is
-tried again without that one. Nothing else of the crate may be refused.
+changes a line of another.
+
+A check goes by the contracts of the other functions, whose proofs the gate has just tried. In the
+copy they have a proof with a hole, which is refused at once, and spend no time. Where a wrong body
+changes more than its function, has no refused goal then, or anything else is refused, a check with
+all proofs decides. There no other function of the crate may be refused, and where the wrong one
+calls another wrong one and has no refused goal, it is tried again without that one.
 
 A crate that passes is kept beside the kit, by a sum of all that its verdict stands on, and isn't
 tried again until something of it changes. out/wrong-bodies/NAME.log has what its checks printed.
 """
 import concurrent.futures
 import contextlib
+import glob
 import hashlib
 import json
 import os
@@ -75,6 +81,14 @@ SAYS_LITTLE = re.compile(
     r"|ran out of |outgrew the memory limit|stopped at the step limit"
 )
 
+# A proof that is refused at once. Its fields are the crate, the path of the proof, and twice the name
+# of the function.
+HOLE = """use Rattle.{}.proofs.{}.Statement.{{statement}}
+
+pub {}_spec : {{M : Type 1}} → statement M
+{}_spec 𝓤 𝓛 𝓜 𝓡 w = ?
+"""
+
 # Edits of a crate that show nothing: of each the function that it names, what it changes, and what
 # its failure must say. The first two show something.
 SELF_TEST = "held_bytes"
@@ -109,6 +123,8 @@ SELF_TESTS = {
     "is_out_of_date": ("clear", "self.bytes.empty();", "prove!(true);", "can't be applied"),
     "changes_nothing": ("clear", "self.taken = 0;", "self.taken = 0;", "can't be applied"),
 }
+# These change nothing but their functions, so that they are tried beside proofs with holes.
+ALONE = ("clear_keeps_all", "means_the_same")
 
 
 class Edit(NamedTuple):
@@ -186,6 +202,44 @@ def impl_around(lines, at):
     if not head[0].startswith("impl") or re.search(r"\bfor\b", " ".join(head)):
         return None
     return head + [it for it in lines[end:at] if re.match(r"    ghost use .*;$", it)]
+
+
+def module_of(path):
+    """The path of the module in a file of src/."""
+    inner = path.removeprefix("src/").removesuffix(".rt").split("/")
+    return () if inner in (["lib"], ["main"]) else tuple(inner)
+
+
+def types_of(texts):
+    """The module of each type that stands in the texts of files, by their paths."""
+    types = re.compile(r"(?m)^(?:pub(?:\(\w+\))? )?(?:struct|enum|union) (\w+)")
+    return {name: module_of(path) for path, text in texts.items() for name in types.findall(text)}
+
+
+def places_of(path, text, types):
+    """Where the functions of a file stand, but those of traits: the first line and the line behind
+    the last one, by the path as a check prints it, without the crate."""
+    lines, found = text.split("\n"), {}
+    for at, line in enumerate(lines):
+        head = re.match(r"( {4})?(?:pub(?:\(\w+\))? )?(?:const )?fn (\w+)\b", line)
+        end = head and f"{head[1] or ''}}}"
+        around = kind_around(lines, at) if head and head[1] else ("", "")
+        if around and end in lines[at:]:
+            module = types.get("" if around[1] else around[0], module_of(path))
+            inner = (*module, *filter(None, ["".join(around)]), head[2])
+            found.setdefault(inner, []).append((at, lines.index(end, at) + 1))
+    return {inner: places[0] for inner, places in found.items() if len(places) == 1}
+
+
+def kind_around(lines, at):
+    """The type, and the trait or nothing, of the impl around a line. Nothing where it is in none."""
+    first = next((it for it in range(at, -1, -1) if re.match(r"[^\s})w]", lines[it])), at)
+    head = " ".join(lines[first:at]).partition("{")[0].replace("->", "")
+    while (shorter := re.sub(r"<[^<>]*>", "", head)) != head:
+        head = shorter
+    kind = re.compile(r"impl (?:(?:\w+::)*(\w+) for )?(\w+) (?:where .*)?")
+    found = kind.fullmatch(f"{' '.join(head.split())} ")
+    return (found[2], found[1] or "") if found else None
 
 
 def item_of(lines, function):
@@ -302,6 +356,8 @@ class Tries:
         self.rt, self.crate, self.files, self.guard = rt, crate, files, guard
         self.place, self.notes_goals = folder(crate.name), notes_goals
         self.edits, self.causes, self.checks, self.seconds = [], [], 0, 0.0
+        # The texts of the crate's files, and the functions whose proofs a check leaves out.
+        self.texts, self.left_out = {}, set()
 
     def fail(self, edit, why):
         self.causes.append(f"{self.crate.name}/{edit}: {why}")
@@ -310,7 +366,9 @@ class Tries:
         return Result(len(self.files), self.checks, self.seconds, self.causes)
 
     def read(self):
-        """Reads the wrong bodies. One that can't be applied to the crate as it stands fails."""
+        """Reads the wrong bodies, and the crate. One that can't be applied to it fails."""
+        for path in glob.glob("src/**/*.rt", root_dir=self.place, recursive=True):
+            self.texts[path] = read(f"{self.place}/{path}")
         for path in self.files:
             name, text = os.path.basename(path), read(path)
             functions = re.findall(r"(?m)^function: (\S+)$", text)
@@ -345,6 +403,16 @@ class Tries:
         for path, text in texts.items():
             write(f"{room}/{path}", text)
         return edit
+
+    def is_inside(self, edit):
+        """Whether a wrong body changes nothing but its function."""
+        rests, inner = [], tuple(edit.function.split("::")[1:])
+        for path, text in self.rt.edited(edit.text, self.place)[0].items():
+            for it in (self.texts[path], text):
+                first, end = places_of(path, it, types_of(self.texts)).get(inner, (0, 0))
+                lines = it.split("\n")
+                rests.append(lines[:first] + lines[end:] if end else it)
+        return len(rests) == 2 and rests[0] == rests[1]
 
     def put_beside(self, edit, room, is_wrong=True):
         """Puts a wrong body into a copy of the crate, into a copy of its function at the end of the
@@ -398,6 +466,24 @@ class Tries:
             if is_wrong and not self.notes_goals:
                 self.answer(edit, room)
         return inside
+
+    def leave_out(self, edits, room):
+        """Leaves out of a copy of the crate the proofs of all functions but those with wrong bodies,
+        unless a wrong body changes more than its function."""
+        types, tried = types_of(self.texts), {tuple(it.function.split("::")[1:]) for it in edits}
+        if not all(map(self.is_inside, edits)):
+            return
+        for path, text in self.texts.items():
+            for inner in {*places_of(path, text, types)} - tried:
+                if inner[:-1] != module_of(path) and not inner[-2].startswith((*types,)):
+                    # of a type of another crate, whose name a check may print otherwise
+                    continue
+                at, own = "/".join([room, "proofs", *inner]), ".".join(inner)
+                shutil.rmtree(at, ignore_errors=True)
+                os.makedirs(at)
+                hole = HOLE.format(self.crate.name, own, inner[-1], inner[-1])
+                write(f"{at}/Proof.antt", hole)
+                self.left_out.add("::".join([self.crate.name, *inner]))
 
     def answer(self, edit, room):
         """Answers in a copy of the crate the goals that a wrong body leaves open, by the calls that the
@@ -463,14 +549,19 @@ class Tries:
     def try_all(self):
         """Tries the wrong bodies, in as few checks as they need."""
         self.read()
-        left = self.edits
+        left, is_whole = self.edits, False
         while left and not self.is_ending:
+            self.left_out = set()
             with self.copy() as room:
-                inside = self.put_in(left, room)
+                apart = [] if is_whole else [it for it in left if self.is_inside(it)]
+                inside = self.put_in(apart or left, room)
                 if not inside:
                     self.fail(", ".join(it.name for it in left), "can't be applied any more")
                     break
+                if apart:
+                    self.leave_out(inside, room)
                 again = self.judge(inside, *self.check(room, [it.tried_as for it in inside]))
+            is_whole = is_whole or bool(again)
             done = {it.name for it in inside} - {it.name for it in again}
             left = [it for it in left if it.name not in done]
         return self.result()
@@ -481,6 +572,8 @@ class Tries:
         paths = {path for it in edits for path, _ in it.lines}
         unread = [it for it in lines if " error[" in it or self.rt.unread(it, paths)]
         if unread or status not in (0, 1) or not ENDED.fullmatch(lines[-1]):
+            if self.left_out:
+                return edits
             return self.judge_unread(edits, status, lines, unread)
         functions, others = functions_in(lines, self.crate.name)
         wrong = {it.tried_as for it in edits}
@@ -489,14 +582,18 @@ class Tries:
             self.note_goals(edits, lines)
         for edit in edits:
             why = shortcoming(functions.get(edit.tried_as))
-            if why and reached(functions, edit.tried_as) & wrong - {edit.tried_as}:
+            below = reached(functions, edit.tried_as) & wrong - {edit.tried_as}
+            if why and (self.left_out or below):
                 hidden.append(edit)
             elif why:
                 self.fail(edit.name, f"{edit.function} {why}")
+        known = wrong | self.left_out
         for name, it in functions.items():
-            is_alone = it.refused or it.says_little or not reached(functions, name) & wrong
-            if name not in wrong and it.verdict != "proved" and is_alone:
+            is_alone = it.refused or it.says_little or not reached(functions, name) & known
+            if name not in known and it.verdict != "proved" and is_alone:
                 others.append(name)
+        if self.left_out:
+            return edits if others else hidden
         names = ", ".join(it.name for it in edits)
         for name in others:
             self.fail(names, f"{name} is refused too, and no edit names it")
@@ -524,20 +621,26 @@ class Tries:
         return [it for it in edits if it not in blamed]
 
     def control(self):
-        """Shows that such a check proves the functions as they stand."""
+        """Shows that such a check refuses no goal of the functions as they stand."""
         self.read()
         with self.copy() as room:
-            functions = sorted({it.tried_as for it in self.put_in(self.edits, room, False)})
+            apart = [it for it in self.edits if self.is_inside(it)]
+            edits = self.put_in(apart or self.edits, room, False)
+            functions = sorted({it.tried_as for it in edits})
+            self.leave_out(edits, room)
             status, said = self.check(room, functions)
             while status == 2 and (found := NO_FUNCTION.search(said)) and found[1] in functions:
                 # one that an edit adds
                 functions.remove(found[1])
                 status, said = self.check(room, functions)
         found, others = functions_in(said.split("\n"), self.crate.name)
-        lost = {*functions} - {*found} | {it for it in found if found[it].verdict != "proved"}
-        for it in sorted({*others, *lost}):
-            self.causes.append(f"{self.crate.name}: {it} is not proved as it stands")
-        if status and not self.causes:
+        for name, it in found.items():
+            is_proved = it.verdict == "proved" or reached(found, name) & self.left_out
+            if name not in self.left_out and (it.refused or it.says_little or not is_proved):
+                others.append(name)
+        for it in sorted({*others, *functions} - ({*found} - {*others})):
+            self.causes.append(f"{self.crate.name}: {it} is refused as it stands")
+        if status and not self.left_out and not self.causes:
             self.causes.append(f"{self.crate.name}: the check ends with status {status}")
         return self.result()
 
@@ -650,7 +753,7 @@ def end_checks(pool):
 
 def line_of(name, result, is_control):
     checks = f"{result.checks} check{'s' * (result.checks != 1)}"
-    what = "shown to be proved as they stand" if is_control else "refused"
+    what = "with no refused goal as they stand" if is_control else "refused"
     said = "FAILED" if result.causes else f"{result.edits} wrong bodies {what}"
     return f"{name}: {said}, in {checks}, {result.seconds:.0f} seconds of one processor"
 
@@ -708,8 +811,10 @@ def self_test(is_gate_passed=False):
             lines = [f"function: {SELF_TEST}::HeldBytes::{function}", "file: src/lib.rt"]
             with open(f"{room}/{name}.edit", "w", encoding="utf-8") as file:
                 file.write("\n".join([*lines, f"old: {old}", f"new: {new}", ""]))
-        files = [f"{room}/{it}" for it in sorted(os.listdir(room))]
-        causes = Tries(rt, built[SELF_TEST], files, rt.rtlib.guarded()).try_all().causes
+        causes = []
+        for names in (ALONE, {*SELF_TESTS} - {*ALONE}):
+            files = [f"{room}/{it}.edit" for it in sorted(names)]
+            causes += Tries(rt, built[SELF_TEST], files, rt.rtlib.guarded()).try_all().causes
     for name, (*_, wanted) in SELF_TESTS.items():
         said = [it for it in causes if it.startswith(f"{SELF_TEST}/{name}.edit: ")]
         if len(said) != bool(wanted) or any(wanted not in it for it in said):
