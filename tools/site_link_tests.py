@@ -495,12 +495,14 @@ class Pauses:
         self.slowest, self.late = max(self.slowest, taken), self.late + (taken > 0.05)
 
 
-def news_over_a_slow_line(number=12, queues=16, behind=10):
+def news_over_a_slow_line(number=12, queues=16, behind=10, wholes=1):
     """A line that carries 30,000 bytes a second shows news soon, and stays up, though a site has changed far more than the line can carry: what
-    is under way is at most the window, and what the site knows takes the place of what waits. News comes behind both, and `behind` frames."""
+    is under way is at most the window, and what the site knows takes the place of what waits. News comes behind both, and `behind` frames; where
+    `wholes` are 2, all that the site knows is longer than the window, and may fill it too, to its end."""
     names = [f"queue-{it}" for it in range(queues)]
     with tempfile.TemporaryDirectory() as room, Mesh(room, 2, queues=names) as mesh:
         (first, second), line, pauses = mesh.sites.values(), mesh.proxies[0, 1], Pauses(mesh.sites[0], queues, number)
+        need((pauses.whole > WINDOW) == (wholes > 1), f"all that a site knows are {pauses.whole:,} bytes")
         pauses.add_members(names)
         mesh.until_equal(number, EQUAL)
         mesh.until_linked()
@@ -512,7 +514,7 @@ def news_over_a_slow_line(number=12, queues=16, behind=10):
             while pauses.done < (line.carried - carried + WINDOW) / (pauses.frame + 16) + BOX / pauses.frame + behind:
                 pauses.ask(client)
         first.add("SIP/news", queue=names[0])
-        started, within = time.monotonic(), (WINDOW + pauses.whole) / SLOW + NEWS
+        started, within = time.monotonic(), (WINDOW + wholes * pauses.whole) / SLOW + NEWS
         seconds, carried = second.shows("SIP/news", within, started), line.carried - carried
         need(pauses.slowest < 2, f"beside a slow line an ask takes {pauses.slowest:.3f} s")
         for it in mesh.proxies.values():
@@ -520,8 +522,13 @@ def news_over_a_slow_line(number=12, queues=16, behind=10):
         mesh.until_equal(number + 1, HEALED)
         for it in mesh.sites.values():
             it.logs_only()
-    return (f"news over a line of {SLOW:,} bytes a second after {pauses.done:,} changes of {pauses.frame:,} bytes: shown {seconds:.1f} s after the "
-            f"reply, of {within:.1f}; {carried:,} bytes")
+    return (f"news over a line of {SLOW:,} bytes a second after {pauses.done:,} changes of {pauses.frame:,} bytes, and a whole of {pauses.whole:,}: "
+            f"shown {seconds:.1f} s after the reply, of {within:.1f}; {carried:,} bytes")
+
+
+def news_behind_a_long_whole():
+    """News comes over such a line also behind wholes that are longer than the window."""
+    return news_over_a_slow_line(160, wholes=2)
 
 
 def restarts(times=4, clients=12):
@@ -1240,27 +1247,32 @@ class Unread:
 
 
 def a_peer_that_reads_nothing(asks=30_000, number=200):
-    """A site whose peer reads nothing, but lives, answers its clients at once, and keeps little for it: what is under way, what may wait, and what
-    its journal may have. Once the peer reads it gets little more than these, and the last change. It is given up four seconds after its last
-    word."""
-    with tempfile.TemporaryDirectory() as room, socket.create_server(("127.0.0.1", 0)) as listener:
+    """A site whose peer reads nothing, but lives, answers its clients at once, as one without peers does, and keeps little for it: what is under
+    way, what may wait, and what its journal may have. Once the peer reads it gets little more than these, and the last change. It is given up
+    four seconds after its last word."""
+    with tempfile.TemporaryDirectory() as room, socket.create_server(("127.0.0.1", 0)) as listener, Site(room, 1, free_ports(1)) as other:
         with Site(room, 0, free_ports(1), [listener.getsockname()[1]]) as site:
             listener.settimeout(PATIENCE)
             peer = Peer(listener.accept()[0], 1, is_dialer=False)
             need(peer.verdict == 0, "a site refuses a peer that accepts")
-            unread, pauses = Unread(peer), Pauses(site, len(QUEUES), number)
-            pauses.add_members(QUEUES)
-            with site.logged_in() as client:
+            other.wait_until_it_listens()
+            unread, pauses, others = Unread(peer), *(Pauses(it, len(QUEUES), number) for it in (site, other))
+            with site.logged_in() as client, other.logged_in() as client_of_other:
+                for it in (pauses, others):
+                    it.add_members(QUEUES)
                 for times in (asks // 5, asks):
                     # The first ones fill what may be filled.
-                    before, pauses.slowest, pauses.late = site.memory(), 0, 0
+                    before = site.memory()
+                    for it in (pauses, others):
+                        it.slowest, it.late = 0, 0
                     for _ in range(times):
                         pauses.ask(client)
+                        others.ask(client_of_other)
                         unread.say()
             grown, frames = site.memory() - before, asks * pauses.frame
-            # A busy machine holds up some asks.
-            need(pauses.late < asks // 1_000 and pauses.slowest < 0.5,
-                 f"beside a peer that reads nothing {pauses.late} asks take more than 50 ms, and one {pauses.slowest:.3f} seconds")
+            # A busy machine holds up some asks, at both sites.
+            need(pauses.late <= 2 * others.late + 5 and pauses.slowest < 0.5,
+                 f"beside a peer that reads nothing {pauses.late} asks take more than 50 ms, one {pauses.slowest:.3f} s; without peers {others.late}")
             need(grown < frames // 2, f"for a peer that reads nothing a site keeps {grown:,} bytes of {frames:,}")
             unread.read_until(pauses.reason().encode())
             # Frames have tags behind them but in the box, and a whole may be under way and another one wait.
@@ -1269,10 +1281,11 @@ def a_peer_that_reads_nothing(asks=30_000, number=200):
             site.logs_only("link to site 1 at ADDRESS: up")
             seconds = site.logs_only("link to ADDRESS: down: no reply for 4 s", seconds=GIVEN_UP, since=unread.said)
             need(seconds > SILENT - 0.3, f"a silent peer is given up after {seconds:.1f} s")
-            site.logs_nothing()
+            for it in (site, other):
+                it.logs_nothing()
             peer.socket.close()
-    return (f"a peer that reads nothing: of {asks:,} asks the slowest takes {1_000 * pauses.slowest:.0f} ms, {pauses.late} take more than 50; "
-            f"{grown >> 10:,} KiB more memory, and {unread.count:,} bytes once it reads, where frames have {frames:,}; given up after "
+    return (f"a peer that reads nothing: of {asks:,} asks the slowest takes {1_000 * pauses.slowest:.0f} ms, {pauses.late} take more than 50 ({others.late} "
+            f"without peers); {grown >> 10:,} KiB more memory, and {unread.count:,} bytes once it reads, where frames have {frames:,}; given up after "
             f"{seconds:.1f} s")
 
 
@@ -1508,7 +1521,7 @@ TESTS = [words_of_a_site, stores_of_sites, clients_of_a_site, addresses, three_s
          wakes_that_fail, a_start_that_waits, silent_connections, silent_peers, a_peer_that_reads_nothing, refused_allocations]
 # What `all` changes, and what it does besides.
 LONGER = {refused_allocations: lambda: refused_allocations(None)}
-MORE = [a_late_item, a_long_whole]
+MORE = [a_late_item, a_long_whole, news_behind_a_long_whole]
 
 
 def run_all(tests=None, longer=False):
