@@ -16,7 +16,7 @@ use Rattle.server.specs.declared.stored_working.StoredSiteTask.{StoredSiteTask}
 use Rattle.server.proofs.ServedSites.{got_within}
 
 -- each site that has ended is the one at its place
-pub served_ends : {D Group Base O : Type 0} {ghosts : _} (Gives : StoredSiteTask → ℕ → List (List ℕ) → PassState → O → PassState → Type 0) (Holds Keeps : D → List Step → Type 0) (begun : D → SiteState)
+pub served_ends : {D Group Base O : Type 0} {ghosts : _} (Gives : StoredSiteTask → ℕ → List (List ℕ) → PassState → O → PassState → Type 0) (Holds : D → List Step → Type 0) (Keeps : D → List Step → List Step → Type 0) (begun : D → SiteState)
     (resumed : List (ResumedState D)) (sites : List (StoredSiteTasks D StoredSite StoredSiteTask Group Base ghosts)) (ends : List (StoredSiteOutput D O)) → length resumed ≡ length sites
     → AtEach (λ place (site : StoredSiteTasks D StoredSite StoredSiteTask Group Base ghosts). IsAtItsPlace resumed place site) sites → HaveStoredEnds Gives Holds Keeps begun JOURNAL_STEPS sites ends → HaveServedEnds Holds Keeps begun resumed ends
 served_ends {D} {Group} {Base} {O} {ghosts} Gives Holds Keeps begun resumed sites ends long each have place own end stands ended =

@@ -18,7 +18,7 @@ IsAtItsPlace sites place launched = slice_get sites place ≡ Some launched.resu
 
 -- the site that began as `replica` has ended: its journal is its own, with no more steps than each
 -- journal of a server, and so is its store, if that came back; if it didn't, there is a fault
-pub record HasServedEnd {D O : Type 0} (Holds Keeps : D → List Step → Type 0) (begun : D → SiteState) (replica : SiteState) (end : StoredSiteOutput D O) : Type 0 where
+pub record HasServedEnd {D O : Type 0} (Holds : D → List Step → Type 0) (Keeps : D → List Step → List Step → Type 0) (begun : D → SiteState) (replica : SiteState) (end : StoredSiteOutput D O) : Type 0 where
   pub of_site : IsOfSite replica.site replica.names end.journal
   pub limit : end.journal.limit ≡ JOURNAL_STEPS
   pub begun_is : end.journal.start ≡ 0 → IsSameSite replica end.journal.base
@@ -26,6 +26,6 @@ pub record HasServedEnd {D O : Type 0} (Holds Keeps : D → List Step → Type 0
   pub lost : end.store ≡ None → end.fault ≡ Some Other
 
 -- the site at each place has ended with the output at that place
-abbrev pub HaveServedEnds : {D O : Type 0} → (D → List Step → Type 0) → (D → List Step → Type 0) → (D → SiteState) → List (ResumedState D) → List (StoredSiteOutput D O) → Type 0
+abbrev pub HaveServedEnds : {D O : Type 0} → (D → List Step → Type 0) → (D → List Step → List Step → Type 0) → (D → SiteState) → List (ResumedState D) → List (StoredSiteOutput D O) → Type 0
 HaveServedEnds {D} {O} Holds Keeps begun sites ends = (place : ℕ) (site : ResumedState D) (end : StoredSiteOutput D O) → slice_get sites place ≡ Some site → slice_get ends place ≡ Some end
     → HasServedEnd Holds Keeps begun site.replica end

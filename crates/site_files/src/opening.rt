@@ -95,7 +95,7 @@ pub(crate) fn site_file<D: StepStore>(
     starts: u64,
 ) -> SiteFile<D>
     requires holds { D.holds store [] }
-    requires keeps { D.keeps store [] }
+    requires keeps { D.keeps store [] [] }
     requires begun { IsSameSite (D.begun store) replica }
     ensures replica { result.resumed.replica ≡ replica }
     ensures store { result.resumed.store ≡ store }

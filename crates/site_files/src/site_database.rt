@@ -33,8 +33,8 @@ impl StepStore for SiteDatabase {
     ghost holds = { λ store list.
         StoresIfClean (file_state store.rows.conn) store.rows.origin store.rows.next list };
 
-    ghost keeps = { λ store list.
-        KeepsIfClean (file_state store.rows.conn) store.rows.origin list };
+    ghost keeps = { λ store list more.
+        KeepsIfClean (file_state store.rows.conn) store.rows.origin list more };
 
     ghost begun = { λ store. store.rows.origin.begun };
 

@@ -1,5 +1,5 @@
 -- What a crash leaves of steps.
-use Rattle.std.proofs.Common.{◌≡◌, ◌≢◌, ◌⊎◌, ◌+◌, ◌-◌, ◌^◌, ◌++◌, min, ⊎_elim, ℕ, List, [], ◌∷◌, length, sym, ap, subst, subst₂, ◌∙◌, arith, append-nil, length-append}
+use Rattle.std.proofs.Common.{◌≡◌, ◌≢◌, ◌⊎◌, ◌+◌, ◌-◌, ◌^◌, ◌++◌, min, ⊎_elim, inl, inr, ℕ, List, [], ◌∷◌, length, sym, ap, subst, subst₂, ◌∙◌, arith, append-nil, length-append}
 use Rattle.sqlite.specs.Order.{Row}
 use Rattle.sqlite.specs.State.{State}
 use Rattle.sqlite.specs.Tree.{Trees}
@@ -17,23 +17,23 @@ use Rattle.site_store.proofs.RowLemmas.{lists_once}
 use Rattle.site_store.proofs.WriteLemmas.{holds_same}
 use Rattle.stored_desk.specs.Recorded.{IsLegalHistory}
 use Rattle.step_database.specs.Standing.{AreRowsOf, StandForSteps, StoreOrigin}
-use Rattle.step_database.specs.Databases.{BeginsWith, Keeps, Stores}
+use Rattle.step_database.specs.Databases.{HasSteps, Keeps, Stores}
 use Rattle.step_database.specs.Restored.{HoldsRestored, RestoredState}
 use Rattle.step_database.proofs.Stands.{stand_anew, stand_begun, stand_on}
 
--- rows that stand for just these steps begin with them
-begins : (table : List Row) (origin : StoreOrigin) (first : ℕ) (rows : List Stored) (steps : List Step) → Lists table first rows → StandForSteps origin rows steps → BeginsWith table origin steps
-begins table origin first rows steps lists stand = record { first = first; rows = rows; more = []; lists = lists; stand = subst (λ (l : List Step). StandForSteps origin rows l) (sym (append-nil steps)) stand }
+-- what a crash leaves of a database stands for the steps that it stores
+stored_steps : (s : State) (origin : StoreOrigin) (next : ℕ) (steps : List Step) → Stores s origin next steps → (db : Trees) → s.may_leave db → HasSteps (db 0) origin steps
+stored_steps s origin next steps it db may = record { first = it.first; rows = it.rows; lists = it.leaves db may; stand = it.stand }
 
--- what a database stores it keeps
-pub stores_keeps : (s : State) (origin : StoreOrigin) (next : ℕ) (steps : List Step) → Stores s origin next steps → Keeps s origin steps
-stores_keeps s origin next steps it db may = begins (db 0) origin it.first it.rows steps (it.leaves db may) it.stand
+-- what a database stores it keeps, whatever steps are under way
+pub stores_keeps : (s : State) (origin : StoreOrigin) (next : ℕ) (steps more : List Step) → Stores s origin next steps → Keeps s origin steps more
+stores_keeps s origin next steps more it db may = inl (stored_steps s origin next steps it db may)
 
 -- and still while other rows that stand for them are put in their place
 pub keeps_put : (old new : State) (origin : StoreOrigin) (next at : ℕ) (steps : List Step) (rows : List Stored) → Stores old origin next steps → StandForSteps origin rows steps
-    → ((db : Trees) → new.may_leave db → old.may_leave db ⊎ Lists (db 0) at rows) → Keeps new origin steps
+    → ((db : Trees) → new.may_leave db → old.may_leave db ⊎ Lists (db 0) at rows) → Keeps new origin steps []
 keeps_put old new origin next at steps rows it stand crash db may =
-    ⊎_elim (λ was. stores_keeps old origin next steps it db was) (λ lists. begins (db 0) origin at rows steps lists stand) (crash db may)
+    inl (⊎_elim (λ was. stored_steps old origin next steps it db was) (λ lists. record { first = at; rows = rows; lists = lists; stand = stand }) (crash db may))
 
 module _ (old new : State) (origin : StoreOrigin) (next : ℕ) (steps more : List Step) (rows : List Stored) (it : Stores old origin next steps) (are : AreRowsOf rows more) (legal : IsLegalHistory origin.begun (steps ++ more)) where
   -- the rows with those of more steps stand for all of these
@@ -51,10 +51,10 @@ module _ (old new : State) (origin : StoreOrigin) (next : ℕ) (steps more : Lis
     stand = stand_more;
   }
 
-  -- and while they are added it keeps the steps before
-  pub keeps_more : ((db : Trees) → new.may_leave db → old.may_leave db ⊎ Lists (db 0) it.first (it.rows ++ rows)) → Keeps new origin steps
+  -- and while they are added it keeps the steps before, or has all of these
+  pub keeps_more : ((db : Trees) → new.may_leave db → old.may_leave db ⊎ Lists (db 0) it.first (it.rows ++ rows)) → Keeps new origin steps more
   keeps_more crash db may =
-      ⊎_elim (λ was. stores_keeps old origin next steps it db was) (λ lists. record { first = it.first; rows = it.rows ++ rows; more = more; lists = lists; stand = stand_more }) (crash db may)
+      ⊎_elim (λ was. inl (stored_steps old origin next steps it db was)) (λ lists. inr (record { first = it.first; rows = it.rows ++ rows; lists = lists; stand = stand_more })) (crash db may)
 
 -- steps without a row need no more rows
 pub stores_rowless : (s : State) (origin : StoreOrigin) (next : ℕ) (steps more : List Step) → Stores s origin next steps → AreRowsOf [] more → IsLegalHistory origin.begun (steps ++ more) → Stores s origin next (steps ++ more)

@@ -1,5 +1,5 @@
 -- What a database holds of a site's steps, and what a crash leaves of them.
-use Rattle.std.specs.Prelude.{ℕ, ◌≡◌, ◌+◌, ◌++◌, List, length, refl}
+use Rattle.std.specs.Prelude.{ℕ, ◌≡◌, ◌⊎◌, ◌+◌, ◌++◌, List, length, refl}
 use Rattle.std.specs.Coded.{Coded, code_by, coded×, coded_ℕ}
 use Rattle.sqlite.specs.Order.{Row}
 use Rattle.sqlite.specs.State.{HasCleanDisk, State}
@@ -36,21 +36,24 @@ pub record Stores (s : State) (origin : StoreOrigin) (next : ℕ) (steps : List 
 abbrev pub StoresIfClean : State → StoreOrigin → ℕ → List Step → Type 0
 StoresIfClean s origin next steps = HasCleanDisk s → Stores s origin next steps
 
--- the rows of a table stand for these steps, and maybe for more behind them
-pub record BeginsWith (table : List Row) (origin : StoreOrigin) (steps : List Step) : Type 0 where
+-- the rows of a table stand for just these steps
+pub record HasSteps (table : List Row) (origin : StoreOrigin) (steps : List Step) : Type 0 where
   pub first : ℕ
   pub rows : List Stored
-  pub more : List Step
   pub lists : Lists table first rows
-  pub stand : StandForSteps origin rows (steps ++ more)
+  pub stand : StandForSteps origin rows steps
 
--- the rows of each outcome of a crash stand for these steps, and maybe for more behind them
-abbrev pub Keeps : State → StoreOrigin → List Step → Type 0
-Keeps s origin steps = (db : Trees) → s.may_leave db → BeginsWith (db 0) origin steps
+-- the rows of a table stand for just these steps, or for these and all of `more` behind them
+abbrev pub HasStepsOrMore : List Row → StoreOrigin → List Step → List Step → Type 0
+HasStepsOrMore table origin steps more = HasSteps table origin steps ⊎ HasSteps table origin (steps ++ more)
 
--- if the disk is clean, each outcome of a crash has these steps, and maybe more
-abbrev pub KeepsIfClean : State → StoreOrigin → List Step → Type 0
-KeepsIfClean s origin steps = HasCleanDisk s → Keeps s origin steps
+-- the rows of each outcome of a crash stand for just these steps, or for these and all of `more`
+abbrev pub Keeps : State → StoreOrigin → List Step → List Step → Type 0
+Keeps s origin steps more = (db : Trees) → s.may_leave db → HasStepsOrMore (db 0) origin steps more
+
+-- if the disk is clean, each outcome of a crash has just these steps, or these and all of `more`
+abbrev pub KeepsIfClean : State → StoreOrigin → List Step → List Step → Type 0
+KeepsIfClean s origin steps more = HasCleanDisk s → Keeps s origin steps more
 
 -- a base that is ready for a store is that of this site
 abbrev pub IsBaseOf : ReadyBase → SiteState → Type 0

@@ -44,9 +44,8 @@ pub record StandForSteps (origin : StoreOrigin) (rows : List Stored) (steps : Li
   pub legal : IsLegalHistory origin.begun steps
   pub lead : (site : SiteState) → LeadAll origin.begun steps site → RowsLead base.replica rest site
 
--- A site that was restored has done the steps, and maybe more: these lead the store's first site to it. Name and starts are the store's.
+-- A site that was restored is the one that did these steps: they lead what the site said before them to it. Name and starts are the store's.
 pub record IsFoundSite (origin : StoreOrigin) (steps : List Step) (found : RestoredSite) : Type 0 where
-  pub more : List Step
-  pub lead : LeadAll origin.begun (steps ++ more) found.journal.replica
+  pub lead : LeadAll origin.begun steps found.journal.replica
   pub name : found.name ≡ origin.name
   pub starts : found.starts ≡ origin.starts

@@ -74,7 +74,7 @@ impl<S: Alter + Drop> StepDatabase<S> {
         ensures holds { IfOk result (λ it.
             StoresIfClean (state S.Store it.0.conn) it.0.origin it.0.next []) }
         ensures keeps { IfOk result (λ it.
-            KeepsIfClean (state S.Store it.0.conn) it.0.origin []) }
+            KeepsIfClean (state S.Store it.0.conn) it.0.origin [] []) }
     {
         let RestoredDatabase {
             conn,
@@ -143,7 +143,8 @@ impl<S: Alter + Drop> StepStore for StepDatabase<S> {
     ghost holds = { λ store list.
         StoresIfClean (state S.Store store.conn) store.origin store.next list };
 
-    ghost keeps = { λ store list. KeepsIfClean (state S.Store store.conn) store.origin list };
+    ghost keeps = { λ store list more.
+        KeepsIfClean (state S.Store store.conn) store.origin list more };
 
     ghost begun = { λ store. store.origin.begun };
 

@@ -70,8 +70,8 @@ fn commit_fault(error: Error) -> CommitFault
 }
 
 // Adds rows from position `at` on, which is the next, in one commit, and returns the next position then. Whatever it returns, a crash
-// keeps the rows from before; after Ok these too. Errors: `Other`, where the next position then passes `LAST_POSITION`; else by the
-// database's error, and the store is to be opened again.
+// leaves the rows from before, or these and all new ones; after Ok the latter. Errors: `Other`, where the next position then passes
+// `LAST_POSITION`; else by the database's error, and the store is to be opened again.
 pub(crate) fn append_rows<S: Alter>(
     conn: &mut Connection<S>,
     at: u64,
@@ -86,7 +86,7 @@ pub(crate) fn append_rows<S: Alter>(
         → (origin : StoreOrigin) (steps more : List Step)
         → Stores (state S.Store conn.old) origin at steps → AreRowsOf rows.now more
         → IsLegalHistory origin.begun (steps ++ more)
-        → Keeps (state S.Store conn.new) origin steps }
+        → Keeps (state S.Store conn.new) origin steps more }
     // The rows that the store has kept stay, also over a crash.
     ensures spared { AddsToAll (state S.Store conn.old) (state S.Store conn.new) at rows.now result }
     ensures spared_crash { CommitsToAll (state S.Store conn.old) (state S.Store conn.new) at rows.now }
@@ -120,7 +120,7 @@ pub(crate) fn put_base<S: Alter>(
         → (origin : StoreOrigin) (steps : List Step)
         → Stores (state S.Store conn.old) origin at steps
         → StandForSteps origin (row.now ∷ []) steps
-        → Keeps (state S.Store conn.new) origin steps }
+        → Keeps (state S.Store conn.new) origin steps [] }
     // A store that keeps rows has them behind those that it has kept, also over a crash.
     ensures moved { HasCleanDisk (state S.Store conn.new) → (first : ℕ) (kept list : List Stored)
         → HoldsAll (state S.Store conn.old) first kept list

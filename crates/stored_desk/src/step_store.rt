@@ -1,4 +1,4 @@
-ghost use Rattle.std.specs.Prelude.{◌≡◌, ◌++◌, IfOk, List, OnOk};
+ghost use Rattle.std.specs.Prelude.{◌≡◌, ◌++◌, [], IfOk, List, OnOk};
 ghost use Rattle.replica.specs.Site.{SiteState};
 ghost use Rattle.site_journal.specs.Legal.{LeadAll};
 ghost use Rattle.site_journal.specs.declared.step.Step.{Step};
@@ -9,7 +9,8 @@ use replica::Replica;
 use site_journal::Step;
 use thiserror::Error;
 
-/// Why a commit of a store has failed. What is in the store beside the steps committed before isn't known (this project's own).
+/// Why a commit of a store has failed. Beside the steps committed before, the store has all steps of the commit or none (this project's
+/// own).
 #[derive(Clone, Copy, Debug, PartialEq, Eq, Error)]
 pub enum CommitFault {
     /// The disk has no room for the steps.
@@ -60,8 +61,8 @@ pub trait StepStore: Drop {
     /// The store has just these steps, and can take more.
     ghost holds: { Self → List Step → Type 0 };
 
-    /// A crash leaves a store whose steps begin with these.
-    ghost keeps: { Self → List Step → Type 0 };
+    /// A crash leaves a store that has just the steps of the first list, or these and then all of the second.
+    ghost keeps: { Self → List Step → List Step → Type 0 };
 
     /// The state of the site before all its steps.
     ghost begun: { Self → SiteState };
@@ -71,30 +72,30 @@ pub trait StepStore: Drop {
         ensures { IfOk result (λ group. groups group steps.now) };
 
     /// Adds the steps of a group in one commit, which the site can do after those that the store has. After Ok they are durable. After an
-    /// error, of which `CommitFault` is the cause, the steps from before stay durable, it isn't known whether the store has those of the
-    /// group, and no call follows.
+    /// error, of which `CommitFault` is the cause, a crash leaves the steps from before, or these and all steps of the group. The desk
+    /// calls the store no more then.
     fn commit(&mut self, group: Self::Group) -> Result<(), CommitFault>
-        ensures added { (list more : List Step) → holds self.old list → keeps self.old list
+        ensures added { (list more : List Step) → holds self.old list → keeps self.old list []
             → groups group more → IsLegalHistory (begun self.old) (list ++ more)
-            → OnOk result (holds self.new (list ++ more) × keeps self.new (list ++ more)) }
-        ensures kept { (list more : List Step) → holds self.old list → keeps self.old list
+            → OnOk result (holds self.new (list ++ more) × keeps self.new (list ++ more) []) }
+        ensures kept { (list more : List Step) → holds self.old list → keeps self.old list []
             → groups group more → IsLegalHistory (begun self.old) (list ++ more)
-            → keeps self.new list }
+            → keeps self.new list more }
         ensures begun { begun self.new ≡ begun self.old };
 
     /// Makes a base of a site. It is called while no lock is held. Fails only when out of memory.
     fn base(&self, site: Replica) -> Result<Self::Base, Memory>
         ensures { IfOk result (λ base. bases base site) };
 
-    /// Puts a base in place of all its steps, in one commit: the site after them. The store still stands for the same steps. After an
-    /// error these stay durable, and no call follows.
+    /// Puts a base in place of all its steps, in one commit: the site after them. The store still stands for the same steps, also after a
+    /// crash. After an error a crash leaves just these steps. The desk calls the store no more then.
     fn replace_base(&mut self, base: Self::Base) -> Result<(), CommitFault>
         ensures replaced { (list : List Step) → (site : SiteState) → holds self.old list
-            → keeps self.old list → bases base site → LeadAll (begun self.old) list site
-            → OnOk result (holds self.new list × keeps self.new list) }
+            → keeps self.old list [] → bases base site → LeadAll (begun self.old) list site
+            → OnOk result (holds self.new list × keeps self.new list []) }
         ensures kept { (list : List Step) → (site : SiteState) → holds self.old list
-            → keeps self.old list → bases base site → LeadAll (begun self.old) list site
-            → keeps self.new list }
+            → keeps self.old list [] → bases base site → LeadAll (begun self.old) list site
+            → keeps self.new list [] }
         ensures begun { begun self.new ≡ begun self.old };
 
     /// How much it has stored since its base; no contract says how much. It takes no memory.

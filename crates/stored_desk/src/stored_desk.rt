@@ -81,7 +81,7 @@ impl<S: StepStore, L: StoredLedger> StoredDesk<S, L> {
         requires history { history ≡ L.history }
         requires mark { mark ≡ L.mark }
         requires holds { S.holds store [] }
-        requires keeps { S.keeps store [] }
+        requires keeps { S.keeps store [] [] }
         requires begun { IsSameSite (S.begun store) L.base }
         ensures passes { IfOk result (λ stored. stored.passes ≡ desk.passes) }
         ensures desk { IfErr result (λ refused. refused.0 ≡ desk) }
@@ -488,7 +488,7 @@ impl<S: StepStore, L: StoredLedger> StoredDesk<S, L> {
     ///
     /// Errors, in order: 1 `Unsaved` and `Memory`, as of `settle_all`, and `Memory` for the copy; 2 `Memory`, where there is none for the
     /// base: the steps are saved, the store keeps the base that it had, and later calls go on; 3 `Unsaved`, where the commit of the base
-    /// fails. No contract says what the store has then.
+    /// fails: the store stands for the saved steps then. No contract says this.
     pub fn replace_base<R: Wait>(&self, rt: &R) -> Result<(), DeskFault>
         ensures { IfErr result (λ fault.
             (fault ≡ DeskFault.Unsaved) ⊎ (fault ≡ DeskFault.Memory)) }

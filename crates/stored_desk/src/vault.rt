@@ -6,6 +6,7 @@ ghost use Rattle.replica.specs.Site.{IsSameSite};
 ghost use Rattle.site_journal.specs.Legal.{LeadAll};
 ghost use Rattle.site_desk.specs.Passes.{step_of};
 ghost use Rattle.stored_desk.specs.Recorded.{IsGroupOfRest, IsLegalHistory};
+ghost use Rattle.stored_desk.specs.Saved.{KeepsSaved};
 
 use crate::history::HistoryPrefix;
 use crate::mark::{Keeper, Mark, SharedClaim};
@@ -34,18 +35,18 @@ pub(crate) struct Vault<S: StepStore, L: StoredLedger> {
 }
 
 impl<S: StepStore, L: StoredLedger> Model for Vault<S, L> {
-    ghost use Rattle.std.specs.Prelude.{◌≡◌, false, length};
+    ghost use Rattle.std.specs.Prelude.{◌≡◌, [], false, length};
     ghost use Rattle.replica.specs.Site.{IsSameSite};
     ghost use Rattle.stored_desk.specs.Recorded.{IsLegalHistory};
-    ghost use Rattle.stored_desk.specs.Saved.{VaultState};
+    ghost use Rattle.stored_desk.specs.Saved.{KeepsSaved, VaultState};
 
     ghost Value = { VaultState S };
 
     ghost view = { λ v. record { store = v.store; list = v.prefix; broken = v.is_broken } };
 
     ghost invariant = { λ v. (v.keeper ≡ length v.prefix) × IsLegalHistory L.base v.prefix
-        × S.keeps v.store v.prefix
-        × (v.is_broken ≡ false → S.holds v.store v.prefix)
+        × KeepsSaved S.keeps L.base v.store v.prefix
+        × (v.is_broken ≡ false → S.holds v.store v.prefix × S.keeps v.store v.prefix [])
         × IsSameSite (S.begun v.store) L.base };
 }
 
@@ -56,7 +57,7 @@ impl<S: StepStore, L: StoredLedger> Vault<S, L> {
         requires keeper { keeper ≡ 0 }
         requires legal { IsLegalHistory L.base [] }
         requires holds { S.holds store [] }
-        requires keeps { S.keeps store [] }
+        requires keeps { S.keeps store [] [] }
         requires begun { IsSameSite (S.begun store) L.base }
         ensures list { result.list ≡ [] }
         ensures broken { result.broken ≡ false }
@@ -79,10 +80,10 @@ impl<S: StepStore, L: StoredLedger> Vault<S, L> {
         self.prefix.len()
     }
 
-    // Gives up the vault for its store, which keeps all that was saved.
+    // Gives up the vault for its store, which has all that was saved, and maybe all steps of a commit that failed.
     pub fn into_store(self) -> S
         ensures store { result ≡ self.store }
-        ensures keeps { S.keeps result self.list }
+        ensures keeps { KeepsSaved S.keeps L.base result self.list }
         ensures legal { IsLegalHistory L.base self.list }
         ensures begun { IsSameSite (S.begun result) L.base }
     {
@@ -92,7 +93,8 @@ impl<S: StepStore, L: StoredLedger> Vault<S, L> {
 
     // Why a commit has failed, if one has.
     pub fn fault(&self) -> Option<CommitFault>
-        ensures { result ≡ None → S.holds self.now.store self.now.list }
+        ensures { result ≡ None
+            → S.holds self.now.store self.now.list × S.keeps self.now.store self.now.list [] }
     {
         if self.is_broken {
             Some(self.fault.unwrap_or(CommitFault::Other))
@@ -258,7 +260,7 @@ impl<S: StepStore, L: StoredLedger> Vault<S, L> {
         ensures receipt { result ≡ settled }
         ensures found { slice_get self.new.list result.position ≡ Some (step_of result) }
         ensures legal { IsLegalHistory L.base self.new.list }
-        ensures keeps { S.keeps self.new.store self.new.list }
+        ensures keeps { KeepsSaved S.keeps L.base self.new.store self.new.list }
         ensures same { self.new ≡ self.old }
     {
         let Settled {

@@ -32,7 +32,7 @@ impl<D: StepStore> ResumedSite<D> {
     /// A site over a store, which has no step yet, and begins as the site.
     pub fn new(replica: Replica, store: D) -> ResumedSite<D>
         requires holds { D.holds store [] }
-        requires keeps { D.keeps store [] }
+        requires keeps { D.keeps store [] [] }
         requires begun { IsSameSite (D.begun store) replica }
         ensures replica { result.replica ≡ replica }
         ensures store { result.store ≡ store }

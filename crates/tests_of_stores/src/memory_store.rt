@@ -47,7 +47,7 @@ impl StepStore for MemoryStore {
 
     ghost holds = { λ store list. ⊤ };
 
-    ghost keeps = { λ store list. ⊤ };
+    ghost keeps = { λ store list more. ⊤ };
 
     ghost begun = { λ store. store.base };
 

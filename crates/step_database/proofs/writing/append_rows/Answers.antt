@@ -15,4 +15,4 @@ returns-in-Err-clause-kept g c clean origin steps more it are legal =
     keeps_more (state g.S.Store c.args.conn.now) (state g.S.Store c.append_all.new.conn) origin c.args.at steps more c.args.rows.now it are legal (c.append_all.ensures.crash clean it.first it.rows it.holds it.next_is)
 
 pub returns-then-at-gt-LAST_POSITION-clause-kept : goal.returns-then-at-gt-LAST_POSITION-clause-kept
-returns-then-at-gt-LAST_POSITION-clause-kept g c clean origin steps more it are legal = stores_keeps (state g.S.Store c.args.conn.now) origin c.args.at steps it
+returns-then-at-gt-LAST_POSITION-clause-kept g c clean origin steps more it are legal = stores_keeps (state g.S.Store c.args.conn.now) origin c.args.at steps more it

@@ -21,4 +21,4 @@ returns-in-Err-clause-kept g c clean origin steps it stand =
     keeps_put (state g.S.Store c.args.conn.now) (state g.S.Store c.replace_base.new.conn) origin c.args.at c.args.at steps (c.args.row.now ∷ []) it stand (c.replace_base.ensures.crash clean it.first it.rows it.holds)
 
 pub returns-then-at-gt-LAST_POSITION-clause-kept : goal.returns-then-at-gt-LAST_POSITION-clause-kept
-returns-then-at-gt-LAST_POSITION-clause-kept g c clean origin steps it stand = stores_keeps (state g.S.Store c.args.conn.now) origin c.args.at steps it
+returns-then-at-gt-LAST_POSITION-clause-kept g c clean origin steps it stand = stores_keeps (state g.S.Store c.args.conn.now) origin c.args.at steps [] it

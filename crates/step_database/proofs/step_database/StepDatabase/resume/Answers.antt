@@ -39,4 +39,4 @@ returns-clause-holds g c clean =
     (c.in_default.ensures.leaves clean is.first is.rows is.holds is.next_is is.outside)
 
 pub returns-clause-keeps : goal.returns-clause-keeps
-returns-clause-keeps g c clean = stores_keeps (state g.S.Store c.begin.new.conn) _ _ [] (returns-clause-holds g c clean)
+returns-clause-keeps g c clean = stores_keeps (state g.S.Store c.begin.new.conn) _ _ [] [] (returns-clause-holds g c clean)

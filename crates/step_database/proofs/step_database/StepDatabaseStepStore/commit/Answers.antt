@@ -17,7 +17,10 @@ returns-then-is_empty-clause-added g c list more held kept are legal =
     let no_rows : AreRowsOf [] more = subst (λ (l : List Stored). AreRowsOf l more) none are in
     let all = λ (clean : HasCleanDisk (state g.S.Store c.args.self.now.conn)).
     stores_rowless (state g.S.Store c.args.self.now.conn) c.args.self.now.origin c.args.self.now.next list more (held clean) no_rows legal in
-    (all, λ clean. stores_keeps (state g.S.Store c.args.self.now.conn) c.args.self.now.origin c.args.self.now.next (list ++ more) (all clean))
+    (all, λ clean. stores_keeps (state g.S.Store c.args.self.now.conn) c.args.self.now.origin c.args.self.now.next (list ++ more) [] (all clean))
+
+pub returns-then-is_empty-clause-kept : goal.returns-then-is_empty-clause-kept
+returns-then-is_empty-clause-kept g c list more held kept are legal = λ clean. stores_keeps (state g.S.Store c.args.self.now.conn) c.args.self.now.origin c.args.self.now.next list more (held clean)
 
 pub returns-clause-added : goal.returns-clause-added
 returns-clause-added g c list more held kept are legal =
@@ -26,4 +29,4 @@ returns-clause-added g c list more held kept are legal =
     let rows = subst (λ (l : List Stored). AreRowsOf l more) (sym c.as_slice-2.ensures.value) are in
     let all = λ (clean : HasCleanDisk (state g.S.Store c.append_rows-added.new.conn)).
     c.in_ok-self-inside.ensures.added clean origin list more (was (c.append_rows-added.ensures.clean clean)) rows (subst (λ v. IsLegalHistory v.origin.begun (list ++ more)) (sym c.self.view_is) legal) in
-    (all, λ clean. stores_keeps (state g.S.Store c.append_rows-added.new.conn) origin c.in_ok-self-inside.field-0 (list ++ more) (all clean))
+    (all, λ clean. stores_keeps (state g.S.Store c.append_rows-added.new.conn) origin c.in_ok-self-inside.field-0 (list ++ more) [] (all clean))

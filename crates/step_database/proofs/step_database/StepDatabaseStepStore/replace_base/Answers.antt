@@ -1,4 +1,4 @@
-use Rattle.std.proofs.Common.{◌≡◌, rules, sym, subst}
+use Rattle.std.proofs.Common.{◌≡◌, [], rules, sym, subst}
 use Rattle.sqlite.specs.Held.{state}
 use Rattle.sqlite.specs.State.{HasCleanDisk}
 use Rattle.site_journal.specs.Legal.{LeadAll}
@@ -40,4 +40,4 @@ returns-clause-replaced g c list site held kept of lead =
     let it = was (c.put_base-put.ensures.clean clean) in
     c.in_ok-self-inside.ensures.put clean origin list it
     (base_stands (state g.S.Store c.self.inside.conn) origin c.self.inside.next list site c.args.base.row c.args.base.name c.args.base.starts it led of name starts) in
-    (all, λ clean. stores_keeps (state g.S.Store c.put_base-put.new.conn) origin c.in_ok-self-inside.field-0 list (all clean))
+    (all, λ clean. stores_keeps (state g.S.Store c.put_base-put.new.conn) origin c.in_ok-self-inside.field-0 list [] (all clean))
