@@ -5,15 +5,13 @@ use crate::hello_source::HelloSource;
 use crate::link_queue::LinkQueue;
 use crate::meeting::{end_reason, is_own_refusal};
 use crate::peer_links::Peer;
-use crate::stream_ends::{StreamAcknowledgements, WRITE_WAITS, prepare};
+use crate::stream_ends::{StreamAcknowledgements, prepare};
 use crate::window_sink::WindowSink;
 use crate::{
-    BackOff, DialEnd, Ending, LinkLog, Meeting, OutletFault, PeerLinks, Ring, end_links,
-    meet_acceptor, send_items,
+    BackOff, DialEnd, Ending, LinkLog, OutletFault, PeerLinks, Ring, end_links, send_link,
 };
-use ami_text::StdSink;
-use link_hello::{HelloFault, LinkKeys, Refusal};
-use link_stream::{ItemSender, SendFault};
+use link_hello::{HelloFault, Refusal};
+use link_stream::SendFault;
 use std::alloc::Global;
 use std::io::ErrorKind;
 use std::net::{Net, TcpListener, TcpStream, ToSocketAddrs};
@@ -88,97 +86,55 @@ fn connect<R: Net<Listener = TcpListener, Stream = TcpStream> + Wait>(
     Err(fault)
 }
 
-// Runs the hello over a stream that was dialed, for which the peer has 3 seconds. Errors, in order: `NotPrepared`; `Hello`, those of
-// `meet_acceptor`.
-fn meet<R: Wait + Clock + RandomSource, G: Drop>(
+// Runs a link over a stream that was dialed: its hello, for which the peer has 3 seconds, and then beats and what waits for the peer, until
+// the link falls or the site ends. If the site was asked to end, it sends what still waits first, for 2 seconds at most. Returns whether
+// there was a link, and why there is none any more: `NotPrepared`, before the hello or where the clock can't be read; `Hello`, those of
+// `meet_acceptor`; `Ending`; `Outlet`, the sink's fault; else `Send`.
+fn run_link<R: Wait + Clock + RandomSource, G: Ring<R> + Drop>(
     rt: &R,
+    alloc: Global,
     links: &PeerLinks<G>,
+    log: LinkLog<'_>,
+    peer: &Peer,
     stream: &TcpStream,
-) -> Result<Meeting, DialFault> {
+) -> (bool, DialFault) {
     let mut nonce = [0u8; 32];
     if prepare(stream).is_err() || rt.fill_bytes(&mut nonce).is_err() {
-        return Err(DialFault::NotPrepared);
+        return (false, DialFault::NotPrepared);
     }
     let Some(now) = millis(rt) else {
-        return Err(DialFault::NotPrepared);
+        return (false, DialFault::NotPrepared);
     };
     let mut source = HelloSource::new(rt, stream, now);
-    let mut sink = StdSink::new(stream).with_waits(WRITE_WAITS);
-    let met = meet_acceptor(
+    let reader = StreamAcknowledgements::new(rt, alloc, links, peer, stream, now);
+    let mut sink = WindowSink::new(rt, stream, reader);
+    let mut queue = LinkQueue::new(links, log, peer);
+    let link = send_link(
         rt,
         &mut source,
         &mut sink,
+        &mut queue,
         &links.roll,
         &links.key,
         &nonce,
         &links.card,
     );
-    match met {
-        Ok(meeting) => Ok(meeting),
-        Err(fault) => Err(DialFault::Hello(fault)),
-    }
-}
-
-// Sends over a link beats and what waits for its peer, until the link falls or the site ends. If the site was asked to end, it
-// sends what still waits first, for 2 seconds at most. `taken` frames of others had been taken when the peer's queue was opened. Returns
-// why it ended: `Ending`; `NotPrepared`, the clock can't be read; `Outlet`, the sink's fault; else `Send`.
-fn send<R: Wait + Clock + RandomSource, G: Ring<R> + Drop>(
-    rt: &R,
-    alloc: Global,
-    links: &PeerLinks<G>,
-    log: LinkLog<'_>,
-    peer: &Peer,
-    stream: &TcpStream,
-    keys: LinkKeys,
-    taken: u64,
-) -> DialFault {
-    let LinkKeys {
-        items,
-        acknowledgements,
-    } = keys;
-    let Some(now) = millis(rt) else {
-        drop(items);
-        drop(acknowledgements);
-        return DialFault::NotPrepared;
-    };
-    let reader = StreamAcknowledgements::new(rt, alloc, links, peer, stream, acknowledgements, now);
-    let mut sink = WindowSink::new(rt, stream, reader);
-    let mut sender = ItemSender::new(items);
-    let mut queue = LinkQueue::new(links, log, peer, taken, now);
-    let sent = send_items(rt, &mut queue, &mut sender, &mut sink);
     let fault = sink.fault();
-    drop(queue);
-    drop(sender);
+    drop(source);
     drop(sink);
-    match (sent, fault) {
-        (Err(_), Some(OutletFault::Ending)) => DialFault::Ending,
-        (Ok(()), _) if links.ending.reason(rt).is_some() => DialFault::Ending,
-        (Ok(()), _) => DialFault::NotPrepared,
-        (Err(_), Some(fault)) => DialFault::Outlet(fault),
-        (Err(fault), None) => DialFault::Send(fault),
+    let (was_up, fault) = match (link, fault) {
+        (Err(fault), _) => (false, DialFault::Hello(fault)),
+        (Ok(Err(_)), Some(OutletFault::Ending)) => (true, DialFault::Ending),
+        (Ok(Ok(())), _) if links.ending.reason(rt).is_some() => (true, DialFault::Ending),
+        (Ok(Ok(())), _) => (true, DialFault::NotPrepared),
+        (Ok(Err(_)), Some(fault)) => (true, DialFault::Outlet(fault)),
+        (Ok(Err(fault)), None) => (true, DialFault::Send(fault)),
+    };
+    if was_up {
+        queue.end(rt);
     }
-}
-
-// Opens the queue of a peer whose link is up, rings the bell for the whole that is due then, sends what waits, and closes the queue.
-// Meanwhile the link counts as up. The frames that were taken are counted first, so that the link asks again for a whole if more are taken.
-// Returns why sending ended.
-fn send_from_queue<R: Wait + Clock + RandomSource, G: Ring<R> + Drop>(
-    rt: &R,
-    alloc: Global,
-    links: &PeerLinks<G>,
-    log: LinkLog<'_>,
-    peer: &Peer,
-    stream: &TcpStream,
-    keys: LinkKeys,
-) -> DialFault {
-    let taken = links.taken.load(Ordering::SeqCst);
-    peer.queue.open(rt);
-    links.up.fetch_add(1, Ordering::SeqCst);
-    links.bell.ring(rt);
-    let fault = send(rt, alloc, links, log, peer, stream, keys, taken);
-    links.up.fetch_sub(1, Ordering::SeqCst);
-    peer.queue.close(rt);
-    fault
+    drop(queue);
+    (was_up, fault)
 }
 
 // Dials once, and runs the link until it falls. When it is up the peer's number is noted, and it is logged. The stream is closed, gently if
@@ -191,22 +147,12 @@ fn dial_once<
         Ok(stream) => stream,
         Err(fault) => return (false, fault),
     };
-    let Meeting { site, keys } = match meet(rt, links, &stream) {
-        Ok(meeting) => meeting,
-        Err(fault) => {
-            if matches!(fault, DialFault::Hello(fault) if is_own_refusal(fault)) {
-                close_gently(rt, &stream);
-            }
-            drop(stream);
-            return (false, fault);
-        }
-    };
-    peer.number
-        .store(u64::from(site.number()), Ordering::SeqCst);
-    log.log_up(rt, site, peer.address.as_str());
-    let fault = send_from_queue(rt, alloc, links, log, peer, &stream, keys);
+    let (was_up, fault) = run_link(rt, alloc, links, log, peer, &stream);
+    if matches!(fault, DialFault::Hello(fault) if is_own_refusal(fault)) {
+        close_gently(rt, &stream);
+    }
     drop(stream);
-    (true, fault)
+    (was_up, fault)
 }
 
 // How a connection that has ended by this fault counts for the next one: as `Itself` or `Refused`, by the fault; else as `WasUp` if

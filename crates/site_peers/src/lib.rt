@@ -1,7 +1,7 @@
 //! The links of one site over TCP: what its threads do for them (this project's own).
 //!
 //! A thread of the site makes frames and hands them to the outboxes of its peers: [`spread`]. A thread for each peer dials it, and sends
-//! what waits for it, in order: [`send_items`]. Further threads accept connections, and let the site take the frames that come over them:
+//! what waits for it, in order: [`send_link`]. Further threads accept connections, and let the site take the frames that come over them:
 //! [`take_frames`]. These loops are proved over any queue, source and sink; sockets stand below them.
 #![tactic(auto)]
 
@@ -23,6 +23,7 @@ pub mod laws;
 mod link_inlet;
 mod link_log;
 mod link_queue;
+mod link_sink;
 mod made_frame;
 mod meeting;
 mod outbox;
@@ -49,13 +50,14 @@ pub use item_time::ItemTime;
 pub use lag::{Lag, LagStep};
 pub use link_inlet::{Acknowledge, AcknowledgeFault, InletFault, LinkInlet};
 pub use link_log::LinkLog;
+pub use link_sink::LinkSink;
 pub use made_frame::MadeFrame;
 pub use meeting::{Meeting, meet_acceptor, meet_dialer};
 pub use outbox::Outbox;
 pub use peer_links::{PeerLinks, Ring, end_links};
 pub use read_count::ReadCount;
 pub use send_queue::SendQueue;
-pub use sending::send_items;
+pub use sending::{send_items, send_link};
 pub use shared_queue::{SharedOutbox, SharedQueue};
 pub use shared_roll::SharedRoll;
 pub use spreading::{spread, spread_once};

@@ -2,6 +2,7 @@
 use crate::clock::{millis, random};
 use crate::peer_links::Peer;
 use crate::{EndReason, ItemQueue, LinkLog, PeerLinks, Ring};
+use dots::SiteId;
 use link_stream::Item;
 use std::random::RandomSource;
 use std::sync::Wait;
@@ -34,25 +35,24 @@ pub(crate) struct LinkQueue<'a, G: Drop> {
 }
 
 impl<'a, G: Drop> LinkQueue<'a, G> {
-    // The queue of a link that is up since the time `now`, in milliseconds. When its peer's queue was opened, `taken` frames of others had
-    // been taken. A beat is due at once, and a whole may be asked for with the next one.
-    pub fn new(
-        links: &'a PeerLinks<G>,
-        log: LinkLog<'a>,
-        peer: &'a Peer,
-        taken: u64,
-        now: u64,
-    ) -> LinkQueue<'a, G> {
+    // The queue of a link that isn't up yet, to this peer.
+    pub fn new(links: &'a PeerLinks<G>, log: LinkLog<'a>, peer: &'a Peer) -> LinkQueue<'a, G> {
         LinkQueue {
             links,
             log,
             peer,
-            beat: now,
-            whole: now.saturating_add(BEAT_MILLIS),
-            taken,
-            looks: peer.queue.looks(),
+            beat: 0,
+            whole: 0,
+            taken: 0,
+            looks: 0,
             is_logged: false,
         }
+    }
+
+    // The link has fallen, after `begin`: nothing waits for the peer any more, and the link doesn't count as up.
+    pub fn end<R: Wait>(&self, rt: &R) {
+        self.links.up.fetch_sub(1, Ordering::SeqCst);
+        self.peer.queue.close(rt);
     }
 }
 
@@ -108,9 +108,29 @@ fn last_item<R: Wait + Clock, G: Drop>(
 impl<'a, R: Wait + Clock + RandomSource, G: Ring<R> + Drop> ItemQueue<R> for LinkQueue<'a, G> {
     ghost use Rattle.std.specs.Prelude.{⊤};
 
+    ghost begins = { λ old peer new. ⊤ };
+
     ghost gives = { λ old item new. ⊤ };
 
     ghost ends = { λ old new. ⊤ };
+
+    // Notes the peer's number, logs that the link is up, opens the peer's queue, and rings the bell for the whole that is due then. From
+    // now on the link counts as up. The frames of others that were taken are counted first, so that the link asks again for a whole if more
+    // are taken. A beat is due at once, and a whole may be asked for with the next one, or with this one where the clock can't be read. No
+    // contract says this.
+    fn begin(&mut self, rt: &R, peer: SiteId) {
+        self.peer
+            .number
+            .store(u64::from(peer.number()), Ordering::SeqCst);
+        self.log.log_up(rt, peer, self.peer.address.as_str());
+        self.taken = self.links.taken.load(Ordering::SeqCst);
+        self.peer.queue.open(rt);
+        self.links.up.fetch_add(1, Ordering::SeqCst);
+        self.links.bell.ring(rt);
+        self.beat = millis(rt).unwrap_or(0);
+        self.whole = self.beat.saturating_add(BEAT_MILLIS);
+        self.looks = self.peer.queue.looks();
+    }
 
     // Waits for the next item: a beat if one is due, before which it asks for a whole and rings as the type says, else what has waited
     // longest. `None`: the site ends and sends nothing more, or the clock can't be read. No contract says what is returned.

@@ -65,10 +65,12 @@ pub(crate) fn has_first_byte(stream: &TcpStream) -> bool {
 // The acknowledgements of a link that come back over its stream. Where the peer asks for a whole, one is due.
 pub(crate) struct StreamAcknowledgements<'a, R, G: Drop> {
     rt: &'a R,
+    alloc: Global,
     links: &'a PeerLinks<G>,
     peer: &'a Peer,
     stream: &'a TcpStream,
-    receiver: AcknowledgementReceiver,
+    // `None` before the hello is over.
+    receiver: Option<AcknowledgementReceiver>,
     // The last number that came.
     taken: u64,
     // When it was last looked for one, and when one last came.
@@ -84,6 +86,7 @@ impl<'a, R, G: Drop> Drop for StreamAcknowledgements<'a, R, G> {
     fn drop(self) {
         let StreamAcknowledgements {
             rt: _,
+            alloc: _,
             links: _,
             peer: _,
             stream: _,
@@ -99,22 +102,22 @@ impl<'a, R, G: Drop> Drop for StreamAcknowledgements<'a, R, G> {
 }
 
 impl<'a, R: Wait + Clock, G: Ring<R> + Drop> StreamAcknowledgements<'a, R, G> {
-    // The acknowledgements that come over this stream from the time `now` on, in milliseconds, with tags under this key.
+    // The acknowledgements that come over this stream after its hello, which begins at the time `now`, in milliseconds.
     pub fn new(
         rt: &'a R,
         alloc: Global,
         links: &'a PeerLinks<G>,
         peer: &'a Peer,
         stream: &'a TcpStream,
-        key: Key,
         now: u64,
     ) -> StreamAcknowledgements<'a, R, G> {
         StreamAcknowledgements {
             rt,
+            alloc,
             links,
             peer,
             stream,
-            receiver: AcknowledgementReceiver::new(alloc, key),
+            receiver: None,
             taken: 0,
             looked: now,
             came: now,
@@ -138,14 +141,18 @@ impl<'a, R: Wait + Clock, G: Ring<R> + Drop> StreamAcknowledgements<'a, R, G> {
     }
 
     // Takes a piece of the acceptor's bytes. Returns the last number in it, which is the greatest; `None`: there is none. Each `Behind` in
-    // it makes a whole due, and rings. The first error ends it: `Receive`; `Window`, a number went back; `FrameRefused`.
+    // it makes a whole due, and rings. The first error ends it: `Receive`; `Window`, a number went back; `FrameRefused`. Before `begin` it
+    // takes nothing.
     fn take(&mut self, piece: &[u8]) -> Result<Option<u64>, OutletFault> {
-        if let Err(fault) = self.receiver.feed(piece) {
+        let Some(receiver) = &mut self.receiver else {
+            return Ok(None);
+        };
+        if let Err(fault) = receiver.feed(piece) {
             return Err(OutletFault::Receive(fault));
         }
         let mut last = None;
         for _ in 0..PIECE {
-            match self.receiver.next_acknowledgement() {
+            match receiver.next_acknowledgement() {
                 Ok(Some(Acknowledgement::Taken(count))) => {
                     if count < self.taken {
                         return Err(OutletFault::Window(WindowFault::WentBack));
@@ -187,10 +194,23 @@ impl<'a, R: Wait + Clock, G: Ring<R> + Drop> StreamAcknowledgements<'a, R, G> {
 
 impl<'a, R: Wait + Clock, G: Ring<R> + Drop> AcknowledgementReader
     for StreamAcknowledgements<'a, R, G> {
+    // If the clock can't be read, acknowledgements are awaited since the hello began.
+    fn begin(&mut self, key: Key) {
+        self.receiver = Some(AcknowledgementReceiver::new(self.alloc, key));
+        self.looks = self.peer.queue.looks();
+        if let Some(now) = millis(self.rt) {
+            self.looked = now;
+            self.came = now;
+        }
+    }
+
     // Waits for at most 0.25 seconds if `waits` is true; else it reads at most each 0.9 seconds, and where the peer's queue has it look at
     // the connection, and waits for at most 1 ms. Errors, in order: `NoClock`; `Ending`; those of `read_once`; `Silent` if no number was
-    // found for 4 seconds, without waiting for 3.1.
+    // found for 4 seconds, without waiting for 3.1. Before `begin` it returns `None` at once.
     fn read_last(&mut self, waits: bool) -> Result<Option<u64>, OutletFault> {
+        if self.receiver.is_none() {
+            return Ok(None);
+        }
         let Some(now) = millis(self.rt) else {
             return Err(OutletFault::NoClock);
         };

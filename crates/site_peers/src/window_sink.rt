@@ -3,8 +3,9 @@ ghost use Rattle.std.specs.Prelude.{◌≡◌, ◌+◌, ◌<◌, ◌≤◌, IfOk
 ghost use Rattle.std.specs.Io.KnownBytes.{Keeps, WriteAppends};
 
 use crate::stream_ends::WRITE_WAITS;
-use crate::{Window, WindowFault};
+use crate::{LinkSink, Window, WindowFault};
 use ami_text::{Failed, Sink};
+use link_keys::Key;
 use link_stream::ReceiveFault;
 use std::io::{ErrorKind, Write};
 use std::sync::Wait;
@@ -41,8 +42,12 @@ pub enum OutletFault {
 
 // What reads the acknowledgements of a link.
 pub(crate) trait AcknowledgementReader {
+    // The hello is over: from now on acknowledgements come, with tags under this key.
+    fn begin(&mut self, key: Key);
+
     // Reads what has come; if nothing has and `waits` is true, it waits for something for a short time. Returns the last acknowledgement
-    // among what it read, a number of bytes in all. `None`: there was none. An error ends the link.
+    // among what it read, a number of bytes in all. `None`: there was none. An error ends the link. Before `begin` it returns `None` at
+    // once.
     fn read_last(&mut self, waits: bool) -> Result<Option<u64>, OutletFault>;
 }
 
@@ -71,8 +76,8 @@ fn write_once<W: Write>(writer: &mut W, bytes: &[u8]) -> Result<usize, OutletFau
     Err(OutletFault::Closed)
 }
 
-// A sink over a writer that takes no byte more than 256 KiB ahead of what the peer has acknowledged. A write waits for acknowledgements
-// where there is no room.
+// A sink over a writer: first of a hello, then of items, of which it takes no byte more than 256 KiB ahead of what the peer has
+// acknowledged. A write waits for acknowledgements where there is no room.
 pub(crate) struct WindowSink<'a, R, W, A> {
     rt: &'a R,
     writer: W,
@@ -99,7 +104,7 @@ impl<'a, R, W: Drop, A: Drop> Drop for WindowSink<'a, R, W, A> {
 }
 
 impl<'a, R: Wait, W: Write, A: AcknowledgementReader> WindowSink<'a, R, W, A> {
-    // A sink that hands what it takes to the writer, to which nothing was written since the hello.
+    // A sink that hands what it takes to the writer, first a hello.
     pub fn new(rt: &'a R, writer: W, reader: A) -> WindowSink<'a, R, W, A>
         ensures writer { result.writer ≡ writer }
         ensures failed { result.failed ≡ false }
@@ -159,6 +164,18 @@ impl<'a, R: Wait, W: Write, A: AcknowledgementReader> WindowSink<'a, R, W, A> {
             waits = true;
         }
         unreachable!()
+    }
+}
+
+impl<'a, R: Wait, W: Write, A: AcknowledgementReader> LinkSink for WindowSink<'a, R, W, A> {
+    // The hello's bytes count no more in the window.
+    fn begin(&mut self, acknowledgements: Key)
+        ensures taken { W.contents self.new.writer ≡ W.contents self.old.writer }
+        ensures failed { self.new.failed ≡ self.old.failed }
+        ensures window { self.new.window ≡ record { written = 0; acknowledged = 0 } }
+    {
+        self.window = Window::new();
+        self.reader.begin(acknowledgements);
     }
 }
 
