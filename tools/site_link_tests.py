@@ -106,6 +106,8 @@ class Site(Server):
             need(taken < seconds, f"after {taken:.1f} of {seconds:.1f} s site {self.number} shows {interface}: {interface in found}")
             if interface in found:
                 return taken
+            # Long reports, asked for without a pause, slow the proxies down, which share this process.
+            time.sleep(0.02)
 
     def line_of(self, text):
         """A line of the log: `queue_sites: site N: ` and this text, in which `ADDRESS` is any address and port, and `REASON` any text."""
@@ -237,7 +239,8 @@ class Proxy:
                 if self.delay:
                     time.sleep(self.delay)
                 if self.rate and is_forth:
-                    due = max(due, time.monotonic()) + len(piece) / self.rate
+                    # A late wake is made up for, so that the line is no slower than it says.
+                    due = max(due, time.monotonic() - 0.2) + len(piece) / self.rate
                     time.sleep(max(0, due - time.monotonic()))
                 self.carried += len(piece) if is_forth else 0
                 if self.goes_whole and not hello:
