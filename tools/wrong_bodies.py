@@ -16,9 +16,9 @@ A wrong body is a file crates/NAME/wrong-bodies/WORDS.edit, named by what is wro
 PATH is the function whose goal must refuse it, as a check prints it behind `fn`. There may be
 several pairs of `old` and `new`, and several files. Each TEXT is one line, and stands once in its
 file. A `goal` is one that the wrong body leaves open, with its arguments; there may be several, or
-none. The check is then given the very calls that the prover makes for it by itself. Where it has no
-call, the prover writes down how to prove the goal, which takes up to half of a check. A function
-with a tactic of its own has no such lines.
+none. The check tries the first one alone, by the very calls that the prover makes for it by itself:
+the one stands first that is refused soonest. Where a goal has no call, the prover writes down how to
+prove it, which takes up to half of a check. A function with a tactic of its own has no such lines.
 
 The wrong bodies of a crate are put into one copy of it, and one check from nothing reads their
 functions and what these call. It says of each function whether a goal of its own is refused, or
@@ -28,10 +28,10 @@ there can be no copy, as of a trait's function, it goes into a second check; so 
 changes a line of another.
 
 A check goes by the contracts of the other functions, whose proofs the gate has just tried. In the
-copy they have a proof with a hole, which is refused at once, and spend no time. Where a wrong body
-changes more than its function, has no refused goal then, or anything else is refused, a check with
-all proofs decides. There no other function of the crate may be refused, and where the wrong one
-calls another wrong one and has no refused goal, it is tried again without that one.
+copy they have no body, and a proof that is refused at once. Where a wrong body changes more than its
+function, has no refused goal then, or anything else is refused, a check with all bodies and proofs
+decides. There no other function of the crate may be refused, and where the wrong one calls another
+wrong one and has no refused goal, it is tried again without that one.
 
 A crate that passes is kept beside the kit, by a sum of all that its verdict stands on, and isn't
 tried again until something of it changes. out/wrong-bodies/NAME.log has what its checks printed.
@@ -68,6 +68,7 @@ IS_FALSE = "the facts known there allow values at which this goal is false"
 ENDED = re.compile(r"only=\d+ proved=\d+")
 # What the prover tries at a goal that nothing answers, and where its words come from.
 ANSWER = "first_of (search rules, grind (arith, common_steps))"
+LEFT_OUT = "left_out"  # in the place of a proof: nothing has this name, so it is refused at once
 COMMON = "Rattle.std.proofs.Common"
 WORDS = {"rules": COMMON, "arith": COMMON, "common_steps": "Rattle.std.proofs.lemmas.Grind"}
 GOAL = re.compile(r"(?m)^goal: ((\S+).*)\n")
@@ -83,10 +84,10 @@ SAYS_LITTLE = re.compile(
 
 # A proof that is refused at once. Its fields are the crate, the path of the proof, and twice the name
 # of the function.
-HOLE = """use Rattle.{}.proofs.{}.Statement.{{statement}}
+NO_PROOF = f"""use Rattle.{{}}.proofs.{{}}.Statement.{{{{statement}}}}
 
-pub {}_spec : {{M : Type 1}} → statement M
-{}_spec 𝓤 𝓛 𝓜 𝓡 w = ?
+pub {{}}_spec : {{{{M : Type 1}}}} → statement M
+{{}}_spec 𝓤 𝓛 𝓜 𝓡 w = {LEFT_OUT}
 """
 
 # Edits of a crate that show nothing: of each the function that it names, what it changes, and what
@@ -123,7 +124,7 @@ SELF_TESTS = {
     "is_out_of_date": ("clear", "self.bytes.empty();", "prove!(true);", "can't be applied"),
     "changes_nothing": ("clear", "self.taken = 0;", "self.taken = 0;", "can't be applied"),
 }
-# These change nothing but their functions, so that they are tried beside proofs with holes.
+# These change nothing but their functions, so that they are tried beside functions without bodies.
 ALONE = ("clear_keeps_all", "means_the_same")
 
 
@@ -222,13 +223,23 @@ def places_of(path, text, types):
     lines, found = text.split("\n"), {}
     for at, line in enumerate(lines):
         head = re.match(r"( {4})?(?:pub(?:\(\w+\))? )?(?:const )?fn (\w+)\b", line)
-        end = head and f"{head[1] or ''}}}"
+        end = head and end_of(lines, at, head[1] or "")
         around = kind_around(lines, at) if head and head[1] else ("", "")
-        if around and end in lines[at:]:
+        if around and end:
             module = types.get("" if around[1] else around[0], module_of(path))
             inner = (*module, *filter(None, ["".join(around)]), head[2])
-            found.setdefault(inner, []).append((at, lines.index(end, at) + 1))
+            found.setdefault(inner, []).append((at, end))
     return {inner: places[0] for inner, places in found.items() if len(places) == 1}
+
+
+def end_of(lines, at, indent):
+    """The line behind the last one of a function that begins at a line. Nothing where it isn't laid
+    out as `rt fmt` does."""
+    for end in range(at, len(lines)):
+        is_empty = lines[end].endswith(" {}") and (end == at or lines[end].startswith(f"{indent})"))
+        if is_empty or lines[end] in (f"{indent}}}", f"{indent}{{}}"):
+            return end + 1
+    return 0
 
 
 def kind_around(lines, at):
@@ -269,6 +280,18 @@ def without(lines, item):
     return lines[: item.first] + lines[item.end :]
 
 
+def without_body(lines):
+    """The lines of a function, without its body. Where more than its proof stands on the body, as where
+    it is evaluated or gives the result its type, the lines stay."""
+    indent = re.match(" *", lines[0])[0]
+    keeps = re.search(r"\bconst fn\b|-> .*\bimpl\b|\bfn drop\b", " ".join(lines))
+    alone = next((it for it, line in enumerate(lines) if line == f"{indent}{{"), None)
+    opens = alone or next((it for it, line in enumerate(lines) if line.endswith("{")), None)
+    if keeps or opens is None or lines[-1].endswith("{}"):
+        return lines
+    return [*lines[: opens + 1], f"{indent}    unreachable!()", lines[-1]]
+
+
 def copied(lines, item, name, new):
     """The lines of a copy of a function under a new name."""
     head = lines[item.head].replace(f"fn {name}", f"fn {new}", 1)
@@ -294,7 +317,8 @@ def functions_in(lines, crate):
     """What a check says of each function, and the other items that it refuses by themselves."""
     errors, goals, functions, others = {}, [], {}, []
     for line in lines:
-        if found := re.match(OF_A_PROOF, line):
+        found = re.match(OF_A_PROOF, line)
+        if found and f"`{LEFT_OUT}` is not in scope" not in found[3]:
             name = f"{crate}::{found[1].replace('/', '::')}"
             errors.setdefault(name, []).append((found[2], found[3]))
     for line in lines:
@@ -344,7 +368,7 @@ def shortcoming(function):
         return f"is refused only since its proof {why}: {function.says_little[0]}"
     if function.calls:
         return f"is refused only since it calls {', '.join(function.calls)}"
-    return "is refused, and the check names no goal"
+    return "is refused, and the check names no goal that it has tried"
 
 
 class Tries:
@@ -468,26 +492,34 @@ class Tries:
         return inside
 
     def leave_out(self, edits, room):
-        """Leaves out of a copy of the crate the proofs of all functions but those with wrong bodies,
-        unless a wrong body changes more than its function."""
-        types, tried = types_of(self.texts), {tuple(it.function.split("::")[1:]) for it in edits}
+        """Leaves out of a copy of the crate the bodies and the proofs of all functions but those with
+        wrong bodies, unless a wrong body changes more than its function."""
+        types, tried = types_of(self.texts), {tuple(it.tried_as.split("::")[1:]) for it in edits}
         if not all(map(self.is_inside, edits)):
             return
-        for path, text in self.texts.items():
-            for inner in {*places_of(path, text, types)} - tried:
+        for path in self.texts:
+            text = read(f"{room}/{path}")
+            lines, emptied = text.split("\n"), []
+            for inner, (first, end) in places_of(path, text, types).items():
+                if inner in tried:
+                    continue
                 if inner[:-1] != module_of(path) and not inner[-2].startswith((*types,)):
                     # of a type of another crate, whose name a check may print otherwise
                     continue
                 at, own = "/".join([room, "proofs", *inner]), ".".join(inner)
                 shutil.rmtree(at, ignore_errors=True)
                 os.makedirs(at)
-                hole = HOLE.format(self.crate.name, own, inner[-1], inner[-1])
-                write(f"{at}/Proof.antt", hole)
+                refused = NO_PROOF.format(self.crate.name, own, inner[-1], inner[-1])
+                write(f"{at}/Proof.antt", refused)
                 self.left_out.add("::".join([self.crate.name, *inner]))
+                emptied.append((first, end))
+            for first, end in sorted(emptied, reverse=True):
+                lines[first:end] = without_body(lines[first:end])
+            write(f"{room}/{path}", "\n".join(lines))
 
     def answer(self, edit, room):
-        """Answers in a copy of the crate the goals that a wrong body leaves open, by the calls that the
-        prover makes for them by itself."""
+        """Answers in a copy of the crate the first of the goals that a wrong body leaves open, by the
+        calls that the prover makes for it by itself. The others are refused at once."""
         goals, inner = GOAL.findall(edit.text), edit.tried_as.split("::")[1:]
         if not goals:
             return
@@ -498,7 +530,11 @@ class Tries:
         for word, module in WORDS.items():
             if not re.search(rf"(?m)^use .*[{{ ]{word}[,}}]", text):
                 text = f"use {module}.{{{word}}}\n{text}"
-        answers = [f"\npub {name} : goal.{name}\n{words} = {ANSWER}\n" for words, name in goals]
+        calls = [ANSWER, *[LEFT_OUT] * (len(goals) - 1)]
+        answers = [
+            f"\npub {name} : goal.{name}\n{words} = {call}\n"
+            for (words, name), call in zip(goals, calls)
+        ]
         os.makedirs(at, exist_ok=True)
         write(f"{at}/Answers.antt", "".join([text, *answers]))
 
@@ -516,6 +552,8 @@ class Tries:
         for edit in edits:
             found = goals.get("/".join(edit.tried_as.split("::")[1:]), [])
             found = [] if self.has_own_calls(edit) else found
+            first = [words for words, _ in GOAL.findall(edit.text) if words in found][:1]
+            found = [*first, *(it for it in found if it not in first)]
             head = f"function: {edit.function}\n"
             noted = head + "".join(f"goal: {it}\n" for it in found)
             text = GOAL.sub("", edit.text).replace(head, noted)
