@@ -84,8 +84,6 @@ impl TaggedBytes {
         requires { size + TAG_BYTES ≤ length self.now.held }
         ensures right { OnOk result (HasTag self.now.key self.now.taken size self.now.held) }
         ensures counter { OnOk result (self.now.taken < 2 ^ 64 - 1) }
-        ensures wrong { IsErrOf result ReceiveFault.WrongTag
-            ↔ (HasTag self.now.key self.now.taken size self.now.held → ⊥) }
         ensures fault { IfErr result (λ fault. IsTagFault fault self.now size) }
         ensures memory { IsErrOf result ReceiveFault.Memory → ⊥ }
     {
@@ -117,8 +115,6 @@ impl TaggedBytes {
         ensures passed { OnOk result
             (TakesTagged self.old (take size self.old.held) self.new) }
         ensures err { OnErr result (self.new ≡ self.old) }
-        ensures wrong { IsErrOf result ReceiveFault.WrongTag
-            ↔ (HasTag self.old.key self.old.taken size self.old.held → ⊥) }
         ensures fault { IfErr result (λ fault. IsTagFault fault self.old size) }
         ensures memory { IsErrOf result ReceiveFault.Memory → ⊥ }
     {
@@ -134,8 +130,6 @@ impl TaggedBytes {
         ensures taken { IfOk result (λ bytes. TakesTagged self.old bytes self.new
             × (bytes ≡ take size self.old.held)) }
         ensures err { OnErr result (self.new ≡ self.old) }
-        ensures wrong { IsErrOf result ReceiveFault.WrongTag
-            ↔ (HasTag self.old.key self.old.taken size self.old.held → ⊥) }
         ensures fault { IfErr result (λ fault. IsTagFault fault self.old size) }
     {
         self.check(size)?;

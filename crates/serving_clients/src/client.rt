@@ -13,7 +13,6 @@ use crate::timed_read::TimedStream;
 use serve::{Desk, ServeFault, serve};
 use std::alloc::Global;
 use std::cell::Cell;
-use std::io;
 use std::io::Read;
 use std::net::{Shutdown, TcpStream};
 use std::sync::Wait;
@@ -63,26 +62,24 @@ fn prepare<R: Clock>(
     }
 }
 
-// Reads and drops what a client still sends, until it closes, is silent for 0.2 seconds, or 2 seconds are over. Counts in `sent` the
-// messages that it read. Errors are those of the clock and the stream, silence too; what was read before is counted.
-fn drain<R: Wait + Clock>(rt: &R, stream: &TcpStream, sent: &mut MessageCount) -> io::Result<()> {
-    let begun = Instant::now(rt)?;
+// Reads and drops what a client still sends, until it closes, and counts in `sent` the messages that it read. `None`: the client was silent
+// for 0.2 seconds, 2 seconds were over, or the clock or the stream failed; what was read before is counted.
+fn drain<R: Wait + Clock>(rt: &R, stream: &TcpStream, sent: &mut MessageCount) -> Option<()> {
+    let begun = Instant::now(rt).ok()?;
     let mut reader = stream;
     let mut piece = [0u8; LAST_PIECE];
     for _ in rt.forever() {
-        let passed = begun.elapsed(rt)?;
-        let Some(left) = time_left(Duration::from_millis(LAST_MILLIS), passed) else {
-            break;
-        };
+        let passed = begun.elapsed(rt).ok()?;
+        let left = time_left(Duration::from_millis(LAST_MILLIS), passed)?;
         let wait = shorter(left, Some(Duration::from_millis(LAST_WAIT_MILLIS)));
-        stream.set_read_timeout(Some(wait))?;
-        let count = reader.read(&mut piece)?;
+        stream.set_read_timeout(Some(wait)).ok()?;
+        let count = reader.read(&mut piece).ok()?;
         if count == 0 {
             break;
         }
         *sent = sent.after(&piece, count);
     }
-    Ok(())
+    Some(())
 }
 
 // Ends a stream so that the client can read all that was written. A stream that is closed over unread bytes discards what the client has
