@@ -16,9 +16,11 @@ A wrong body is a file crates/NAME/wrong-bodies/WORDS.edit, named by what is wro
 PATH is the function whose goal must refuse it, as a check prints it behind `fn`. There may be
 several pairs of `old` and `new`, and several files. Each TEXT is one line, and stands once in its
 file. A `goal` is one that the wrong body leaves open, with its arguments; there may be several, or
-none. The check tries the first one alone, by the very calls that the prover makes for it by itself:
-the one stands first that is refused soonest. Where a goal has no call, the prover writes down how to
-prove it, which takes up to half of a check. A function with a tactic of its own has no such lines.
+none. The check tries the first one alone, by the very calls that the prover makes for it by itself,
+and that goal must be refused: the one stands first that is refused soonest. Where no goal is named,
+the prover writes down how to prove those that are open, which takes up to half of a check. A function
+with a tactic of its own has no such lines, nor has a goal with an answer by hand: where that answer
+no longer fits, it counts as refused, though this shows only that it is a proof of something else.
 
 The wrong bodies of a crate are put into one copy of it, and one check from nothing reads their
 functions and what these call. It says of each function whether a goal of its own is refused, or
@@ -68,7 +70,8 @@ IS_FALSE = "the facts known there allow values at which this goal is false"
 ENDED = re.compile(r"only=\d+ proved=\d+")
 # What the prover tries at a goal that nothing answers, and where its words come from.
 ANSWER = "first_of (search rules, grind (arith, common_steps))"
-LEFT_OUT = "left_out"  # in the place of a proof: nothing has this name, so it is refused at once
+# In the place of a proof: nothing has this name, so it is refused at once.
+LEFT_OUT = "wrong_bodies_leave_this_out"
 COMMON = "Rattle.std.proofs.Common"
 WORDS = {"rules": COMMON, "arith": COMMON, "common_steps": "Rattle.std.proofs.lemmas.Grind"}
 GOAL = re.compile(r"(?m)^goal: ((\S+).*)\n")
@@ -78,9 +81,15 @@ NO_FUNCTION = re.compile(r"(?m)^rattle: error: .* has no function `(\S+)`")
 # A proof names what the edit took away, or cites one that does, or the check met a limit: none of
 # that says anything of the contract. Nor does an error of an invariant, whose types may have changed.
 SAYS_LITTLE = re.compile(
-    r"has no field|is not in scope|has no `|was not admitted|which was rejected, (?:was|were) not"
-    r"|ran out of |outgrew the memory limit|stopped at the step limit"
+    r"has no field|is not in scope|no module, record or data type|has no `|was not admitted"
+    r"|which was rejected, (?:was|were) not|ran out of |outgrew the memory limit"
+    r"|stopped at the step limit"
 )
+
+# Where a proof has lost names, other parts of it may not fit for that alone: only goals count then
+# that were tried to their end.
+LOST = re.compile(r"has no field|is not in scope|no module, record or data type|has no `")
+TRIED = re.compile(r"no proof of|does not follow")
 
 # A proof that is refused at once. Its fields are the crate, the path of the proof, and twice the name
 # of the function.
@@ -124,7 +133,8 @@ SELF_TESTS = {
     "is_out_of_date": ("clear", "self.bytes.empty();", "prove!(true);", "can't be applied"),
     "changes_nothing": ("clear", "self.taken = 0;", "self.taken = 0;", "can't be applied"),
 }
-# These change nothing but their functions, so that they are tried beside functions without bodies.
+# These change nothing but their functions, so that they are tried beside functions without bodies,
+# and name a goal.
 ALONE = ("clear_keeps_all", "means_the_same")
 
 
@@ -243,9 +253,15 @@ def end_of(lines, at, indent):
 
 
 def kind_around(lines, at):
-    """The type, and the trait or nothing, of the impl around a line. Nothing where it is in none."""
+    """The type, and the trait or nothing, of the impl around a line. Nothing where it is in none, or
+    the impl isn't of all types of its kind: a check prints another name then."""
     first = next((it for it in range(at, -1, -1) if re.match(r"[^\s})w]", lines[it])), at)
-    head = " ".join(lines[first:at]).partition("{")[0].replace("->", "")
+    head = " ".join(" ".join(lines[first:at]).partition("{")[0].replace("->", "").split())
+    if found := re.match(r"impl(?:<((?:[^<>]|<[^<>]*>)*)>)? (.*?)(?: where |$)", head):
+        own = re.findall(r"(?:^|, )(?:const )?('?\w+)", re.sub(r"<[^<>]*>", "", found[1] or ""))
+        given = re.findall(r"'?\w+", " ".join(re.findall(r"<([^<>]*)>", found[2])))
+        if {*given} - {*own, "'_"}:
+            return None
     while (shorter := re.sub(r"<[^<>]*>", "", head)) != head:
         head = shorter
     kind = re.compile(r"impl (?:(?:\w+::)*(\w+) for )?(\w+) (?:where .*)?")
@@ -263,8 +279,7 @@ def item_of(lines, function):
         found = re.match(rf"( *)(?:pub(?:\(\w+\))? )?(?:const )?fn {name}\b", line)
         if not found or bool(found[1]) != bool(kind):
             continue
-        first, ends = head, (f"{found[1]}}}", f"{found[1]}{{}}")
-        end = next((it + 1 for it in range(head + 1, len(lines)) if lines[it] in ends), None)
+        first, end = head, end_of(lines, head, found[1])
         while lines[first - 1].startswith(f"{found[1]}#["):
             first -= 1
         around = impl_around(lines, head) if kind else []
@@ -280,16 +295,27 @@ def without(lines, item):
     return lines[: item.first] + lines[item.end :]
 
 
-def without_body(lines):
-    """The lines of a function, without its body. Where more than its proof stands on the body, as where
-    it is evaluated or gives the result its type, the lines stay."""
-    indent = re.match(" *", lines[0])[0]
-    keeps = re.search(r"\bconst fn\b|-> .*\bimpl\b|\bfn drop\b", " ".join(lines))
-    alone = next((it for it, line in enumerate(lines) if line == f"{indent}{{"), None)
+def head_of(lines):
+    """The lines of a function down to the one that opens its body. All where it has an empty one."""
+    opening = f"{re.match(' *', lines[0])[0]}{{"
+    alone = next((it for it, line in enumerate(lines) if line == opening), None)
     opens = alone or next((it for it, line in enumerate(lines) if line.endswith("{")), None)
-    if keeps or opens is None or lines[-1].endswith("{}"):
+    return lines if opens is None or lines[-1].endswith("{}") else lines[: opens + 1]
+
+
+def heads_of(path, text, types):
+    """The heads of the functions of a file, by their paths."""
+    lines = text.split("\n")
+    return {it: head_of(lines[slice(*at)]) for it, at in places_of(path, text, types).items()}
+
+
+def without_body(lines):
+    """The lines of a function, without its body. Where more than its proof stands on the body, as
+    where it is evaluated or gives the result its type, the lines stay."""
+    head, keeps = head_of(lines), r"\bconst fn\b|-> .*\bimpl\b|\bfn drop\b"
+    if head == lines or re.search(keeps, " ".join(head)):
         return lines
-    return [*lines[: opens + 1], f"{indent}    unreachable!()", lines[-1]]
+    return [*head, f"{re.match(' *', lines[0])[0]}    unreachable!()", lines[-1]]
 
 
 def copied(lines, item, name, new):
@@ -333,6 +359,8 @@ def functions_in(lines, crate):
             is_little = lambda part, it: part == "Invariants" or SAYS_LITTLE.search(it)
             little = [it for part, it in of_proof if is_little(part, it)]
             refused = [it for part, it in of_proof if not is_little(part, it)]
+            if any(map(LOST.search, little)):
+                refused = [it for it in refused if TRIED.search(it)]
             refused += [it for it in goals if not little or IS_FALSE in it]
             calls = re.findall(r"`([^`]+)`", said.partition("it calls ")[2])
             functions[name] = Function(verdict, refused, little, calls)
@@ -405,9 +433,22 @@ class Tries:
                 self.fail(name, f"can't be applied: {why}")
             elif not all(it.startswith("src/") for it in re.findall(r"(?m)^file: (.*)$", text)):
                 self.fail(name, "changes a file outside src/")
+            elif self.changes_a_contract(text):
+                self.fail(name, "changes the head or a clause of a function")
+            elif GOAL.search(text) and self.has_own_calls(functions[0], text):
+                self.fail(name, "has a goal, and its function a tactic of its own")
             else:
                 lines = changed_lines(text, self.place)
                 self.edits.append(Edit(name, functions[0], text, lines, functions[0]))
+
+    def changes_a_contract(self, text):
+        """Whether a wrong body changes the name, a type or a clause of a function."""
+        types = types_of(self.texts)
+        for path, wrong in self.rt.edited(text, self.place)[0].items():
+            right, found = heads_of(path, self.texts[path], types), heads_of(path, wrong, types)
+            if any(found.get(it, right[it]) != right[it] for it in right):
+                return True
+        return False
 
     @contextlib.contextmanager
     def copy(self):
@@ -473,10 +514,10 @@ class Tries:
                 write(f"{room}/{proof}{ending}/{name}", text)
 
     def put_in(self, edits, room, is_wrong=True):
-        """Puts wrong bodies into a copy of the crate, and returns which. One that changes several
-        files may change what other functions stand on, so it is put in alone. Where they aren't to
-        be wrong, only the copies of functions are put in."""
-        inside, is_wide = [], lambda edit: len({path for path, _ in edit.lines}) > 1
+        """Puts wrong bodies into a copy of the crate, and returns which. One that changes more than its
+        function may change what others stand on, so it is put in alone. Where they aren't to be
+        wrong, only the copies of functions are put in."""
+        inside, is_wide = [], lambda edit: not self.is_inside(edit)
         for edit in edits:
             if inside and (is_wide(edit) or is_wide(inside[0])):
                 continue
@@ -492,8 +533,9 @@ class Tries:
         return inside
 
     def leave_out(self, edits, room):
-        """Leaves out of a copy of the crate the bodies and the proofs of all functions but those with
-        wrong bodies, unless a wrong body changes more than its function."""
+        """Leaves out of a copy of the crate the bodies and the proofs of functions, but not of those
+        with wrong bodies, nor of those whose name a check may print otherwise. It leaves out none
+        where a wrong body changes more than its function."""
         types, tried = types_of(self.texts), {tuple(it.tried_as.split("::")[1:]) for it in edits}
         if not all(map(self.is_inside, edits)):
             return
@@ -504,7 +546,7 @@ class Tries:
                 if inner in tried:
                     continue
                 if inner[:-1] != module_of(path) and not inner[-2].startswith((*types,)):
-                    # of a type of another crate, whose name a check may print otherwise
+                    # of a type of another crate
                     continue
                 at, own = "/".join([room, "proofs", *inner]), ".".join(inner)
                 shutil.rmtree(at, ignore_errors=True)
@@ -524,9 +566,10 @@ class Tries:
         if not goals:
             return
         at = "/".join([room, "proofs", *inner])
-        text = f"use Rattle.{'.'.join([self.crate.name, 'proofs', *inner])}.Goals as goal\n"
-        if os.path.isfile(f"{at}/Answers.antt"):
-            text = read(f"{at}/Answers.antt")
+        text = read(f"{at}/Answers.antt") if os.path.isfile(f"{at}/Answers.antt") else ""
+        if " as goal\n" not in text:
+            own = ".".join([self.crate.name, "proofs", *inner])
+            text = f"use Rattle.{own}.Goals as goal\n{text}"
         for word, module in WORDS.items():
             if not re.search(rf"(?m)^use .*[{{ ]{word}[,}}]", text):
                 text = f"use {module}.{{{word}}}\n{text}"
@@ -538,12 +581,12 @@ class Tries:
         os.makedirs(at, exist_ok=True)
         write(f"{at}/Answers.antt", "".join([text, *answers]))
 
-    def has_own_calls(self, edit):
+    def has_own_calls(self, function, text):
         """Whether the prover tries more at the goals of a function than at those of others, as the
         attribute of its tactic says."""
-        path = re.search(r"(?m)^file: (.*)$", edit.text)[1]
+        path = re.search(r"(?m)^file: (.*)$", text)[1]
         lines = read(f"{self.place}/{path}").split("\n")
-        item = item_of(lines, edit.function)
+        item = item_of(lines, function)
         return "tactic(" in "\n".join(lines[item.first : item.head] if item else lines)
 
     def note_goals(self, edits, lines):
@@ -551,7 +594,7 @@ class Tries:
         goals = goals_in(lines)
         for edit in edits:
             found = goals.get("/".join(edit.tried_as.split("::")[1:]), [])
-            found = [] if self.has_own_calls(edit) else found
+            found = [] if self.has_own_calls(edit.function, edit.text) else found
             first = [words for words, _ in GOAL.findall(edit.text) if words in found][:1]
             found = [*first, *(it for it in found if it not in first)]
             head = f"function: {edit.function}\n"
@@ -604,6 +647,15 @@ class Tries:
             left = [it for it in left if it.name not in done]
         return self.result()
 
+    def tried(self, edit, function):
+        """What a check says of the function of a wrong body. Where the wrong body has a goal, only the
+        refusal of that goal counts."""
+        goals = GOAL.findall(edit.text)
+        if function is None or not goals or self.notes_goals:
+            return function
+        begins = tuple(f"`{goals[0][1]}`: `{it}`: " for it in ("search", "grind"))
+        return function._replace(refused=[it for it in function.refused if it.startswith(begins)])
+
     def judge(self, edits, status, said):
         """Judges the wrong bodies that one check has read. Returns those to be tried again."""
         lines = said.rstrip("\n").split("\n")
@@ -619,7 +671,7 @@ class Tries:
         if self.notes_goals:
             self.note_goals(edits, lines)
         for edit in edits:
-            why = shortcoming(functions.get(edit.tried_as))
+            why = shortcoming(self.tried(edit, functions.get(edit.tried_as)))
             below = reached(functions, edit.tried_as) & wrong - {edit.tried_as}
             if why and (self.left_out or below):
                 hidden.append(edit)
@@ -800,6 +852,7 @@ def run(names, is_gate_passed=False, is_control=False, notes_goals=False):
     """Tries the wrong bodies of these crates. Returns whether all are refused, lines that report
     it, and the seconds of each crate."""
     os.makedirs(LOGS, exist_ok=True)
+    Tries.is_ending = False
     rt, without = loaded(), [it for it in all_crates() if it in names and not files_of(it)]
     names = [it for it in all_crates() if it in names and it not in without]
     kept, crates = Kept(rt), crates_at(rt, TOP)
@@ -846,7 +899,8 @@ def self_test(is_gate_passed=False):
             return False, [f"    {SELF_TEST} is not proved as it stands"]
         room = stack.enter_context(tempfile.TemporaryDirectory(prefix="wrong-bodies-"))
         for name, (function, old, new, _) in SELF_TESTS.items():
-            lines = [f"function: {SELF_TEST}::HeldBytes::{function}", "file: src/lib.rt"]
+            goals = ["goal: returns c"] if name in ALONE else []
+            lines = [f"function: {SELF_TEST}::HeldBytes::{function}", *goals, "file: src/lib.rt"]
             with open(f"{room}/{name}.edit", "w", encoding="utf-8") as file:
                 file.write("\n".join([*lines, f"old: {old}", f"new: {new}", ""]))
         causes = []
@@ -854,7 +908,8 @@ def self_test(is_gate_passed=False):
             files = [f"{room}/{it}.edit" for it in sorted(names)]
             causes += Tries(rt, built[SELF_TEST], files, rt.rtlib.guarded()).try_all().causes
     for name, (*_, wanted) in SELF_TESTS.items():
-        said = [it for it in causes if it.startswith(f"{SELF_TEST}/{name}.edit: ")]
+        of_it = [it for it in causes if it.startswith(f"{SELF_TEST}/{name}.edit: ")]
+        said = [it for it in of_it if " is refused too, " not in it]
         if len(said) != bool(wanted) or any(wanted not in it for it in said):
             report.append(f"    {name} must fail with '{wanted or 'nothing'}', and not with {said}")
     if not any("held_bytes::drop_front is refused too" in it for it in causes):
