@@ -17,10 +17,9 @@ PATH is the function whose goal must refuse it, as a check prints it behind `fn`
 several pairs of `old` and `new`, and several files. Each TEXT is one line, and stands once in its
 file. A `goal` is one that the wrong body leaves open, with its arguments; there may be several, or
 none. The check tries the first one alone, by the very calls that the prover makes for it by itself,
-and that goal must be refused: the one stands first that is refused soonest. Where no goal is named,
-the prover writes down how to prove those that are open, which takes up to half of a check. A function
-with a tactic of its own has no such lines, nor has a goal with an answer by hand: where that answer
-no longer fits, it counts as refused, though this shows only that it is a proof of something else.
+and that goal must be refused: the one stands first that is refused soonest. A function with a
+tactic of its own has no such lines, nor has a goal with an answer by hand: where that answer no
+longer fits, it counts as refused, though this shows only that it is a proof of something else.
 
 The wrong bodies of a crate are put into one copy of it, and one check from nothing reads their
 functions and what these call. It says of each function whether a goal of its own is refused, or
@@ -30,10 +29,11 @@ there can be no copy, as of a trait's function, it goes into a second check; so 
 changes a line of another.
 
 A check goes by the contracts of the other functions, whose proofs the gate has just tried. In the
-copy they have no body, and a proof that is refused at once. Where a wrong body changes more than its
-function, has no refused goal then, or anything else is refused, a check with all bodies and proofs
-decides. There no other function of the crate may be refused, and where the wrong one calls another
-wrong one and has no refused goal, it is tried again without that one.
+copy they have no body, and a proof that is refused at once. Of a wrong one no goal is tried but the
+one that it names, or without one those with an answer by hand, if there are any. Where a wrong body
+changes more than its function, has no refused goal then, or anything else is refused, a check with
+all bodies, proofs and goals decides. There no other function of the crate may be refused, and where
+the wrong one calls another wrong one and has no refused goal, it is tried again without that one.
 
 A crate that passes is kept beside the kit, by a sum of all that its verdict stands on, and isn't
 tried again until something of it changes. out/wrong-bodies/NAME.log has what its checks printed.
@@ -90,6 +90,9 @@ SAYS_LITTLE = re.compile(
 # that were tried to their end.
 LOST = re.compile(r"has no field|is not in scope|no module, record or data type|has no `")
 TRIED = re.compile(r"no proof of|does not follow")
+
+# In front of a function: no goal of it is tried but those with an answer.
+NO_TACTIC = "#[tactic(none)]"
 
 # A proof that is refused at once. Its fields are the crate, the path of the proof, and twice the name
 # of the function.
@@ -408,8 +411,9 @@ class Tries:
         self.rt, self.crate, self.files, self.guard = rt, crate, files, guard
         self.place, self.notes_goals = folder(crate.name), notes_goals
         self.edits, self.causes, self.checks, self.seconds = [], [], 0, 0.0
-        # The texts of the crate's files, and the functions whose proofs a check leaves out.
-        self.texts, self.left_out = {}, set()
+        # The texts of the crate's files, the functions whose proofs a check leaves out, and those of
+        # which it tries no goal without an answer.
+        self.texts, self.left_out, self.answered = {}, set(), set()
 
     def fail(self, edit, why):
         self.causes.append(f"{self.crate.name}/{edit}: {why}")
@@ -559,6 +563,25 @@ class Tries:
                 lines[first:end] = without_body(lines[first:end])
             write(f"{room}/{path}", "\n".join(lines))
 
+    def try_answers_alone(self, edits, room):
+        """Lets a check of a copy of the crate try no goal of wrong functions but those with an answer.
+        A function without any, or with a tactic of its own, stays."""
+        types = types_of(self.texts)
+        for edit in edits:
+            path, inner = next(iter(edit.lines))[0], tuple(edit.tried_as.split("::")[1:])
+            text = read(f"{room}/{path}")
+            place = places_of(path, text, types).get(inner)
+            has_answer = os.path.isfile("/".join([room, "proofs", *inner, "Answers.antt"]))
+            if not place or not has_answer or self.has_own_calls(edit.function, edit.text):
+                continue
+            lines = text.split("\n")
+            head = lines[place[0]].lstrip()
+            # In the same line, so that all lines keep their numbers.
+            indent = lines[place[0]].removesuffix(head)
+            lines[place[0]] = f"{indent}{NO_TACTIC} {head}"
+            write(f"{room}/{path}", "\n".join(lines))
+            self.answered.add(edit.tried_as)
+
     def answer(self, edit, room):
         """Answers in a copy of the crate the first of the goals that a wrong body leaves open, by the
         calls that the prover makes for it by itself. The others are refused at once."""
@@ -632,7 +655,7 @@ class Tries:
         self.read()
         left, is_whole = self.edits, False
         while left and not self.is_ending:
-            self.left_out = set()
+            self.left_out, self.answered = set(), set()
             with self.copy() as room:
                 apart = [] if is_whole else [it for it in left if self.is_inside(it)]
                 inside = self.put_in(apart or left, room)
@@ -641,18 +664,29 @@ class Tries:
                     break
                 if apart:
                     self.leave_out(inside, room)
+                if apart and not self.notes_goals:
+                    self.try_answers_alone(inside, room)
                 again = self.judge(inside, *self.check(room, [it.tried_as for it in inside]))
             is_whole = is_whole or bool(again)
             done = {it.name for it in inside} - {it.name for it in again}
             left = [it for it in left if it.name not in done]
         return self.result()
 
+    def is_short(self):
+        """Whether a check leaves out proofs or goals."""
+        return bool(self.left_out or self.answered)
+
     def tried(self, edit, function):
         """What a check says of the function of a wrong body. Where the wrong body has a goal, only the
-        refusal of that goal counts."""
+        refusal of that goal counts. A goal that wasn't tried doesn't."""
         goals = GOAL.findall(edit.text)
-        if function is None or not goals or self.notes_goals:
+        if function is None or self.notes_goals:
             return function
+        if not goals:
+            refused = function.refused
+            if edit.tried_as in self.answered:
+                refused = [it for it in refused if not OPEN_GOAL.match(it)]
+            return function._replace(refused=refused)
         begins = tuple(f"`{goals[0][1]}`: `{it}`: " for it in ("search", "grind"))
         return function._replace(refused=[it for it in function.refused if it.startswith(begins)])
 
@@ -662,7 +696,7 @@ class Tries:
         paths = {path for it in edits for path, _ in it.lines}
         unread = [it for it in lines if " error[" in it or self.rt.unread(it, paths)]
         if unread or status not in (0, 1) or not ENDED.fullmatch(lines[-1]):
-            if self.left_out:
+            if self.is_short():
                 return edits
             return self.judge_unread(edits, status, lines, unread)
         functions, others = functions_in(lines, self.crate.name)
@@ -673,7 +707,7 @@ class Tries:
         for edit in edits:
             why = shortcoming(self.tried(edit, functions.get(edit.tried_as)))
             below = reached(functions, edit.tried_as) & wrong - {edit.tried_as}
-            if why and (self.left_out or below):
+            if why and (self.is_short() or below):
                 hidden.append(edit)
             elif why:
                 self.fail(edit.name, f"{edit.function} {why}")
@@ -682,7 +716,7 @@ class Tries:
             is_alone = it.refused or it.says_little or not reached(functions, name) & known
             if name not in known and it.verdict != "proved" and is_alone:
                 others.append(name)
-        if self.left_out:
+        if self.is_short():
             return edits if others else hidden
         names = ", ".join(it.name for it in edits)
         for name in others:

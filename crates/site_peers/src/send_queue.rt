@@ -159,6 +159,25 @@ impl SendQueue {
         self.frames.is_whole_due() || self.last != Some(*digest)
     }
 
+    // Lets a whole, which has this digest, wait in the place of all that waited. It is due no more, nor being made.
+    fn keep_whole(&mut self, whole: SharedBytes, digest: [u8; 32])
+        requires open { self.old.box.is_open ≡ true }
+        ensures { self.new ≡ record self.old {
+          box = record self.old.box { whole_due = false; frames = [] };
+          whole = Some whole;
+          making = false;
+          last = Some digest;
+          lacking = false;
+        } }
+    {
+        self.frames.require_whole();
+        drop(self.frames.take());
+        self.whole = Some(whole);
+        self.is_being_made = false;
+        self.last = Some(digest);
+        self.lacks_memory = false;
+    }
+
     /// Gives the queue a whole that was made after every frame that was put. If it was made for the peer, and a whole is due or this one
     /// isn't the same as the last one but for its heading, it waits in the place of all that waited, and is due no more. Otherwise nothing
     /// that waits changes. What was asked since it was begun stays asked. The queue becomes one more owner of its bytes.
@@ -185,12 +204,7 @@ impl SendQueue {
             self.lacks_memory = true;
             return Err(AllocError);
         };
-        self.frames.require_whole();
-        drop(self.frames.take());
-        self.whole = Some(copy);
-        self.is_being_made = false;
-        self.last = Some(digest);
-        self.lacks_memory = false;
+        self.keep_whole(copy, digest);
         Ok(())
     }
 
