@@ -29,11 +29,12 @@ there can be no copy, as of a trait's function, it goes into a second check; so 
 changes a line of another.
 
 A check goes by the contracts of the other functions, whose proofs the gate has just tried. In the
-copy they have no body, and a proof that is refused at once. Of a wrong one no goal is tried but the
-one that it names, or without one those with an answer by hand, if there are any. Where a wrong body
-changes more than its function, has no refused goal then, or anything else is refused, a check with
-all bodies, proofs and goals decides. There no other function of the crate may be refused, and where
-the wrong one calls another wrong one and has no refused goal, it is tried again without that one.
+copy they have no body, and a proof that is refused at once. Of a wrong one no goal is tried that
+has no answer, if it has answers: the goal that the wrong body names has one then, and it alone
+counts; without such a goal each answer by hand counts. Where a wrong body changes more than its
+function, has no refused goal then, or anything else is refused, a check with all bodies, proofs and
+unnamed goals decides. There no other function of the crate may be refused, and where the wrong one
+calls another wrong one and has no refused goal, it is tried again without that one.
 
 A crate that passes is kept beside the kit, by a sum of all that its verdict stands on, and isn't
 tried again until something of it changes. out/wrong-bodies/NAME.log has what its checks printed.
@@ -75,6 +76,8 @@ LEFT_OUT = "wrong_bodies_leave_this_out"
 COMMON = "Rattle.std.proofs.Common"
 WORDS = {"rules": COMMON, "arith": COMMON, "common_steps": "Rattle.std.proofs.lemmas.Grind"}
 GOAL = re.compile(r"(?m)^goal: ((\S+).*)\n")
+# In a wrong body: what may be no part of it, whatever function it stands in.
+OF_A_CONTRACT = re.compile(r"(?m)^(?:old: *(?:requires|ensures|ghost)\b|(?:old|new): .*\btactic\()")
 OFFER = re.compile(r"help: (?:write|add these lines to) (?:\./)?proofs/(\S+)/Answers\.antt\b")
 OFFERED = re.compile(r"    (\S+(?: \S+)*) = \?")
 NO_FUNCTION = re.compile(r"(?m)^rattle: error: .* has no function `(\S+)`")
@@ -438,7 +441,7 @@ class Tries:
             elif not all(it.startswith("src/") for it in re.findall(r"(?m)^file: (.*)$", text)):
                 self.fail(name, "changes a file outside src/")
             elif self.changes_a_contract(text):
-                self.fail(name, "changes the head or a clause of a function")
+                self.fail(name, "changes the head, a clause or a tactic of a function")
             elif GOAL.search(text) and self.has_own_calls(functions[0], text):
                 self.fail(name, "has a goal, and its function a tactic of its own")
             else:
@@ -446,7 +449,9 @@ class Tries:
                 self.edits.append(Edit(name, functions[0], text, lines, functions[0]))
 
     def changes_a_contract(self, text):
-        """Whether a wrong body changes the name, a type or a clause of a function."""
+        """Whether a wrong body changes the name, a type, a clause or a tactic of a function."""
+        if OF_A_CONTRACT.search(text):
+            return True
         types = types_of(self.texts)
         for path, wrong in self.rt.edited(text, self.place)[0].items():
             right, found = heads_of(path, self.texts[path], types), heads_of(path, wrong, types)
@@ -745,13 +750,15 @@ class Tries:
         return [it for it in edits if it not in blamed]
 
     def control(self):
-        """Shows that such a check refuses no goal of the functions as they stand."""
+        """Shows that such a check refuses no goal that it tries of the functions as they stand."""
         self.read()
         with self.copy() as room:
             apart = [it for it in self.edits if self.is_inside(it)]
             edits = self.put_in(apart or self.edits, room, False)
             functions = sorted({it.tried_as for it in edits})
             self.leave_out(edits, room)
+            if apart:
+                self.try_answers_alone(edits, room)
             status, said = self.check(room, functions)
             while status == 2 and (found := NO_FUNCTION.search(said)) and found[1] in functions:
                 # one that an edit adds
@@ -759,12 +766,14 @@ class Tries:
                 status, said = self.check(room, functions)
         found, others = functions_in(said.split("\n"), self.crate.name)
         for name, it in found.items():
-            is_proved = it.verdict == "proved" or reached(found, name) & self.left_out
-            if name not in self.left_out and (it.refused or it.says_little or not is_proved):
+            is_tried = lambda goal: name not in self.answered or not OPEN_GOAL.match(goal)
+            refused, left_out = [*filter(is_tried, it.refused)], self.left_out | self.answered
+            is_proved = it.verdict == "proved" or {name, *reached(found, name)} & left_out
+            if name not in self.left_out and (refused or it.says_little or not is_proved):
                 others.append(name)
         for it in sorted({*others, *functions} - ({*found} - {*others})):
             self.causes.append(f"{self.crate.name}: {it} is refused as it stands")
-        if status and not self.left_out and not self.causes:
+        if status and not self.is_short() and not self.causes:
             self.causes.append(f"{self.crate.name}: the check ends with status {status}")
         return self.result()
 
