@@ -292,14 +292,20 @@ def kills(times=20, clients=32, sites=2):
     return f"{times} kills among {done:,} changes by {clients} clients"
 
 
+def seconds_of_a_first_start(folder):
+    """How long a server takes until it listens, whose stores are new, in a folder that is missing."""
+    os.mkdir(folder)
+    server, started = stored(folder), time.monotonic()
+    with server:
+        return time.monotonic() - started
+
+
 def killed_first_starts(times=20):
     """A server that is killed at a random moment of its first start starts again."""
     lot, cut_off = random.Random(6), 0
     with tempfile.TemporaryDirectory() as room:
-        os.mkdir(folder := f"{room}/whole")
-        server, started = stored(folder), time.monotonic()
-        with server:
-            seconds = time.monotonic() - started
+        # The shortest of some, since another program may make one long.
+        seconds = min(seconds_of_a_first_start(f"{room}/whole-{it}") for it in range(5))
         for turn in range(times):
             os.mkdir(folder := f"{room}/stores-{turn}")
             server = stored(folder)
