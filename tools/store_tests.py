@@ -304,8 +304,8 @@ def killed_first_starts(times=20):
     """A server that is killed at a random moment of its first start starts again."""
     lot, cut_off = random.Random(6), 0
     with tempfile.TemporaryDirectory() as room:
-        # The shortest of some, since another program may make one long.
-        seconds = min(seconds_of_a_first_start(f"{room}/whole-{it}") for it in range(5))
+        # By the shortest of some, since another program may make one long. Kills come later too, so that the end of a longer start is met.
+        seconds = 1.5 * min(seconds_of_a_first_start(f"{room}/whole-{it}") for it in range(5))
         for turn in range(times):
             os.mkdir(folder := f"{room}/stores-{turn}")
             server = stored(folder)
